@@ -74,3 +74,7 @@ pub one-question : One-question
 one-question [] p q hp hq = absurd (too-short [] p (omega arith) hp)
 one-question (n ∷ []) p q hp hq = absurd (too-short (n ∷ []) p (omega arith) hp)
 one-question (n ∷ g ∷ rest) p q hp hq = decodes n g rest p hp .1 ∙ sym (decodes n g rest q hq .1)
+
+pub transition-words-append : (ts us : List Transition) → transition-words (ts ++ us) ≡ transition-words ts ++ transition-words us
+transition-words-append [] us = refl
+transition-words-append (t ∷ ts) us = ap (λ ws. t .source ∷ t .label ∷ t .target ∷ ws) (transition-words-append ts us)

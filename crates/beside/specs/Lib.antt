@@ -1,0 +1,3 @@
+-- Two drawings as one question.
+pub mod Joined
+pub mod Asks

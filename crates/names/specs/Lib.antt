@@ -1,0 +1,4 @@
+-- Names by number.
+pub mod Places
+pub mod Table
+pub mod Numbered
