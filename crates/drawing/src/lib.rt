@@ -118,7 +118,7 @@ impl Drawing {
     pub fn can_press(&self, state: usize, button: usize) -> bool
         ensures { λ r. ⌜ r ≡ presses state button (planned (now (self .entry)) .arrows) ⌝ }
     {
-        any_leads(self.arrows.as_slice(), state, button)
+        any_leads(self.arrows(), state, button)
     }
 
     // The number of the state at which it starts.
