@@ -1,0 +1,21 @@
+-- Tests and steps; rounds and formulas; bisimilarity; blocks; the list of formulas; what code needs of it; all together.
+pub mod Bools
+pub mod Steps
+pub mod Rounds
+pub mod Agreement
+pub mod Tables
+pub mod Bisimilarity
+pub mod Counting
+pub mod Leaders
+pub mod Stability
+pub mod Terms
+pub mod Unmatched
+pub mod Growth
+pub mod Bounds
+pub mod Ending
+pub mod Answers
+pub mod Least
+pub mod Settling
+pub mod Places
+pub mod Standing
+pub mod Museum
