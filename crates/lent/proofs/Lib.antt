@@ -1,0 +1,2 @@
+-- Laws of bits.
+pub mod Bits

@@ -1,0 +1,2 @@
+-- What is kept in lent words.
+pub mod Bits
