@@ -1,6 +1,6 @@
 pub mod Linking
 pub mod Walking
 pub mod Sets
-pub mod Passes
+pub mod Adding
 pub mod Decoded
 pub mod Matched

@@ -13,12 +13,6 @@ pub record At (ws : List ℕ) (g s j : ℕ) : Type 0 where
   pub high : j ≤ g
   pub here : j < g → source-at ws j ≡ s
 
--- so it is, and those of s before it have P
-pub record Walked (ws : List ℕ) (g s : ℕ) (P : ℕ → Type 0) (j : ℕ) : Type 0 where
-  pub high : j ≤ g
-  pub here : j < g → source-at ws j ≡ s
-  pub done : (t : ℕ) → t < j → source-at ws t ≡ s → P t
-
 -- on to the next
 pub at-next : (ws fs ns : List ℕ) (s j : ℕ) → Chained ws fs ns → j < length ns → At ws (length ns) s j → At ws (length ns) s (getD ns j 0)
 at-next ws fs ns s j c h w =

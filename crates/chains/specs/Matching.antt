@@ -32,7 +32,7 @@ pub record Ready (ws fs ns old sets : List ℕ) : Type 0 where
   pub blocks : (s : ℕ) → s < length fs → getD old s 0 < length fs
   pub room : length sets ≡ 2 * length fs
 
--- the blocks that the transitions of x lead into have empty sets
+-- of the first g transitions those of x lead into blocks with empty sets
 abbrev pub Emptied : List ℕ → List ℕ → ℕ → ℕ → List ℕ → Type 0
 Emptied ws old g x sets = (t : ℕ) → t < g → source-at ws t ≡ x → (a : ℕ) → a < 64 → in-set sets (block-at ws old t) a ≡ 0
 
@@ -40,9 +40,13 @@ Emptied ws old g x sets = (t : ℕ) → t < g → source-at ws t ≡ x → (a : 
 abbrev pub Listed : List ℕ → List ℕ → List ℕ → ℕ → Type 0
 Listed ws old sets t = in-set sets (block-at ws old t) (label-at ws t) ≡ 1
 
+-- so it is for those of x of the first g transitions
+abbrev pub All-listed : List ℕ → List ℕ → ℕ → ℕ → List ℕ → Type 0
+All-listed ws old g x sets = (t : ℕ) → t < g → source-at ws t ≡ x → Listed ws old sets t
+
 -- of the first g transitions those of y are listed, and no label else came into a set
 pub record Added (ws old : List ℕ) (g y : ℕ) (before after : List ℕ) : Type 0 where
-  pub listed : (t : ℕ) → t < g → source-at ws t ≡ y → Listed ws old after t
+  pub listed : All-listed ws old g y after
   pub only : (b a : ℕ) → a < 64 → in-set before b a ≡ 0 → in-set after b a ≡ 1
       → (t : ℕ) × (t < g) × (source-at ws t ≡ y) × (label-at ws t ≡ a) × (block-at ws old t ≡ b)
 
@@ -51,11 +55,11 @@ pub record Missing (ws old : List ℕ) (g x : ℕ) (sets : List ℕ) (j : ℕ) :
   pub within : j < g
   pub of : source-at ws j ≡ x
   pub missing : Listed ws old sets j → ⊥
-  pub before : (t : ℕ) → t < j → source-at ws t ≡ x → Listed ws old sets t
+  pub before : All-listed ws old j x sets
 
 -- the first transition of x that is not listed, if there is one
 abbrev pub First-missing : List ℕ → List ℕ → ℕ → ℕ → List ℕ → Option ℕ → Type 0
-First-missing ws old g x sets None = (t : ℕ) → t < g → source-at ws t ≡ x → Listed ws old sets t
+First-missing ws old g x sets None = All-listed ws old g x sets
 First-missing ws old g x sets (Some j) = Missing ws old g x sets j
 
 -- transition j is the first of x that y does not match into the same block

@@ -3,7 +3,6 @@ use mathlib.Core.List.{List}
 use mathlib.Core.Path.{_≡_}
 use Prim.Native.Nat.{ℕ, suc, _+_, _*_, _<_, _≤_}
 use lib.ListN.{length, getD}
-use Rattle.lts.specs.declared.Transition.{Transition}
 use Rattle.lts.specs.Machine.{Machine}
 use Rattle.lts.specs.Decoding.{transitions-of}
 

@@ -16,15 +16,6 @@ pub struct System<'a> {
     pub next: &'a [u32],
 }
 
-// Writes the value into each word.
-fn fill(words: &mut [u32], value: u32)
-    ensures { λ _. ⌜ ((k : ℕ) → k < length (now (words .exit)) → getD (now (words .exit)) k 0 ≡ value) ⌝ }
-{
-    for word in words.iter_mut() {
-        *word = value;
-    }
-}
-
 // Links the transitions, the last first, where no state has one yet.
 fn link(words: &[u32], first: &mut [u32], next: &mut [u32])
     requires whole { ⌜ length (now words) ≡ 3 * length (now next) ⌝ }
@@ -47,7 +38,7 @@ pub fn chain(words: &[u32], first: &mut [u32], next: &mut [u32])
     requires sources { ⌜ ((j : ℕ) → j < length (now next) → source-at (now words) j < length (now first)) ⌝ }
     ensures { λ _. ⌜ Chained (now (words .entry)) (now (first .exit)) (now (next .exit)) ⌝ }
 {
-    fill(first, next.len() as u32);
+    lent::fill(first, next.len() as u32);
     link(words, first, next);
 }
 

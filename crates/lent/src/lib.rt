@@ -3,7 +3,7 @@ ghost use mathlib.Core.Bool.{cond};
 ghost use mathlib.Core.Path.{_≡_};
 ghost use Prim.Native.Nat.{ℕ, _*_, _^_, _<_};
 ghost use lib.Dec.{eqb};
-ghost use lib.ListN.{length};
+ghost use lib.ListN.{length, getD};
 ghost use Rattle.std.specs.Orderings.{Decides};
 ghost use Rattle.lent.specs.Bits.{bit-at, First-difference, Agree};
 
@@ -25,6 +25,15 @@ pub fn set_bit(words: &mut [u32], p: usize)
     ensures { λ _. ⌜ ((q : ℕ) → bit-at (now (words .exit)) q ≡ cond (eqb q p) 1 (bit-at (now (words .entry)) q)) ⌝ }
 {
     words[p / 32] |= 1 << (p % 32);
+}
+
+// Writes a value into each word.
+pub fn fill(words: &mut [u32], value: u32)
+    ensures { λ _. ⌜ ((k : ℕ) → k < length (now (words .exit)) → getD (now (words .exit)) k 0 ≡ value) ⌝ }
+{
+    for word in words.iter_mut() {
+        *word = value;
+    }
 }
 
 // Clears all bits.

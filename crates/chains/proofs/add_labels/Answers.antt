@@ -1,7 +1,7 @@
 use native.Mathlib.Omega.{arith}
 use lib.ListN.{length}
 use denote.Ref.{now}
-use Rattle.chains.proofs.Passes.{added-next}
+use Rattle.chains.proofs.Adding.{added-next}
 use Rattle.chains.proofs.add_labels.Needs as need
 
 pub loop-j-again : need.loop-j-again

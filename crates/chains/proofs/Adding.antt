@@ -1,21 +1,17 @@
--- The passes over the transitions of two states.
+-- The pass that adds labels.
 use mathlib.Core.Bool.{Bool, true, false, cond, _&&_}
 use mathlib.Core.List.{List}
 use mathlib.Core.Path.{_≡_, refl, sym, _∙_, subst}
-use mathlib.Core.Logic.{_⊎_, inl, inr}
+use mathlib.Core.Logic.{inl, inr}
 use Prim.Native.Nat.{ℕ, _<_}
 use native.Mathlib.Omega.{arith}
 use lib.Dec.{eqb}
 use lib.ListN.{length, getD}
 use Rattle.std.proofs.shelf.Tests.{cases-bool, eq-eqb, cond-true, cond-false, eqb-true, and-parts, and-from}
-use Rattle.chains.specs.System.{source-at, label-at, Chained, Bounded}
+use Rattle.chains.specs.System.{label-at, Chained, Bounded}
 use Rattle.chains.specs.Labels.{in-set}
 use Rattle.chains.specs.Matching.{block-at, Listed, Added}
 use Rattle.chains.proofs.Walking.{At, at-next, before-next}
-
--- the block that transition t leads into has an empty set
-abbrev pub Blank : List ℕ → List ℕ → List ℕ → ℕ → Type 0
-Blank ws old sets t = (a : ℕ) → a < 64 → in-set sets (block-at ws old t) a ≡ 0
 
 cond-1 : (b : Bool) (n : ℕ) → n ≡ 1 → cond b 1 n ≡ 1
 cond-1 true n e = refl

@@ -4,7 +4,7 @@ use mathlib.Core.Logic.{_≢_}
 use Prim.Native.Nat.{_<_}
 use lib.ListN.{length}
 use lib.Seq.{getD-set-same, getD-set-other}
-use Rattle.chains.proofs.fill.Needs as need
+use Rattle.lent.proofs.fill.Needs as need
 
 pub loop-word-again : need.loop-word-again
 loop-word-again c =

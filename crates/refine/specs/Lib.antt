@@ -1,0 +1,4 @@
+-- What refinement computes.
+pub mod Born
+pub mod Rounds
+pub mod Refined
