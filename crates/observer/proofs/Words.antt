@@ -9,7 +9,7 @@ use lib.Dec.{T}
 use lib.ListN.{length, take, drop, getD}
 use borrow.Author.Tests.{both-ways}
 use Rattle.std.proofs.shelf.Lists.{take-rest, length-take-le}
-use Rattle.lts.specs.Question.{Question, Encodes, valid}
+use Rattle.lts.specs.Question.{Question, Encodes, valid, transition-words}
 use Rattle.lts.specs.Decoding.{question-of}
 use Rattle.lts.proofs.Encoding.{words-of-transitions, rest-words, decodes}
 
@@ -61,3 +61,7 @@ reads-none (n ∷ []) q two bad h = omega arith
 reads-none (n ∷ g ∷ rest) q two bad h =
     let P : List ℕ → Type 0 = λ b. valid (decoded n g b) ≡ false → ⊥ in
     subst P (sym (take-rest (n ∷ g ∷ rest) 2)) (λ fails. encodes-none n g rest q fails h) bad
+
+-- the part of the words that is borrowed holds transitions and nothing else
+pub borrowed-words : (w : List ℕ) → 2 ≤ length w → length (behind w) ≡ 3 * getD w 1 0 + 2 → transition-words (made-of w .machine .transitions) ≡ take (3 * getD w 1 0 - 0) (drop 0 (behind w))
+borrowed-words w two long = rw sub-zero (words-of-transitions (getD w 1 0) (take (3 * getD w 1 0) (behind w)) (length-take-le (3 * getD w 1 0) (behind w) (omega arith)) .0)

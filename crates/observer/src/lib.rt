@@ -1,6 +1,10 @@
 // Questions about machines, as words that a caller lends.
 mod asked;
+mod distance;
+mod measured;
 mod reading;
 
 pub use asked::Asked;
+pub use distance::Distance;
+pub use measured::measure;
 pub use reading::read;

@@ -5,3 +5,4 @@ pub mod Facts
 pub mod OneTurn
 pub mod AllRounds
 pub mod Starting
+pub mod Telling

@@ -4,10 +4,10 @@ ghost use Prim.Native.Nat.{suc, min, _+_, _*_, _^_, _<_, _≤_};
 ghost use lib.ListN.{length};
 ghost use Rattle.chains.specs.Matching.{Ready, related};
 ghost use Rattle.chains.specs.System.{label-at, target-at, machine-of};
-ghost use Rattle.formulas.specs.Link.{births-of, Link};
+ghost use Rattle.formulas.specs.Link.{row-of, births-of, Link};
 ghost use Rattle.theory.specs.Births.{next-birth, rounds};
 ghost use Rattle.refine.specs.Born.{birth-in};
-ghost use Rattle.refine.specs.Refined.{Askable, Enough, Refines};
+ghost use Rattle.refine.specs.Refined.{Askable, Enough, Refines, First-telling, Ahead};
 ghost use Rattle.refine.specs.Rounds.{Fixed, Begun, Sofar, Turning, Turned, After, Done};
 use chains::System;
 use chains::chain;
@@ -15,6 +15,7 @@ use chains::unmatched;
 use formulas::Birth;
 use formulas::add_formula;
 use lent::fill;
+use lent::first_difference;
 
 // The birth for transition `j`, which the state `lack` does not match.
 fn birth_for(words: &[u32], j: usize, level: u32, lack: usize) -> Birth
@@ -204,9 +205,11 @@ fn run_rounds(
     }
 }
 
-// What refinement leaves: for each state a row of answers, `width` words wide, and its leader; and the births of the formulas, four words each.
+// A machine that was refined, with what that leaves: for each state a row of answers, `width` words wide, and its leader; and the births of the formulas, four words each.
 #[derive(Clone, Copy)]
 pub struct Refined<'a> {
+    pub states: usize,
+    pub words: &'a [u32],
     pub width: usize,
     pub rows: &'a [u32],
     pub leads: &'a [u32],
@@ -228,7 +231,8 @@ fn row_width(states: usize, transitions: usize) -> usize
 pub fn refine<'a>(states: usize, words: &'a [u32], memory: &'a mut [u32]) -> Refined<'a>
     requires askable { ⌜ Askable states (now words) ⌝ }
     requires enough { ⌜ Enough (now words) (now memory) ⌝ }
-    ensures { λ r. ⌜ Refines states (now (words .entry)) r ⌝ }
+    ensures machine { λ r. ⌜ (r .states ≡ states) × (now (r .words) ≡ now (words .entry)) ⌝ }
+    ensures refined { λ r. ⌜ Refines r ⌝ }
 {
     let transitions = words.len() / 3;
     let width = row_width(states, transitions);
@@ -245,10 +249,50 @@ pub fn refine<'a>(states: usize, words: &'a [u32], memory: &'a mut [u32]) -> Ref
     let system = System { words, first, next };
     let counts = run_rounds(system, width, old, rows, leads, births, scratch);
     Refined {
+        states,
+        words,
         width,
         rows,
         leads,
         births,
         counts,
+    }
+}
+
+// The row of a state.
+fn row<'a>(rows: &'a [u32], width: usize, s: usize) -> &'a [u32]
+    requires { ⌜ s * width + width ≤ length (now rows) ⌝ }
+    ensures { λ r. ⌜ now r ≡ row-of (now (rows .entry)) width s ⌝ }
+{
+    &rows[s * width..s * width + width]
+}
+
+// The first formula that tells two states apart, by its number; none exactly if the two are bisimilar.
+pub fn first_telling(refined: Refined, s: usize, t: usize) -> Option<usize>
+    requires refined { ⌜ Refines refined ⌝ }
+    requires one { ⌜ s < refined .states ⌝ }
+    requires other { ⌜ t < refined .states ⌝ }
+    ensures { λ r. ⌜ First-telling (refined .entry) s t r ⌝ }
+{
+    let first = first_difference(
+        row(refined.rows, refined.width, s),
+        row(refined.rows, refined.width, t),
+    );
+    if first < refined.counts.formulas {
+        return Some(first);
+    }
+    None
+}
+
+// How many steps ahead one has to look to tell two states apart; none exactly if they are bisimilar.
+pub fn ahead(refined: Refined, s: usize, t: usize) -> Option<u32>
+    requires refined { ⌜ Refines refined ⌝ }
+    requires one { ⌜ s < refined .states ⌝ }
+    requires other { ⌜ t < refined .states ⌝ }
+    ensures { λ r. ⌜ Ahead (refined .entry) s t r ⌝ }
+{
+    match first_telling(refined, s, t) {
+        Some(first) => Some(refined.births[4 * first]),
+        None => None,
     }
 }

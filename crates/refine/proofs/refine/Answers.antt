@@ -1,9 +1,11 @@
-use mathlib.Core.Path.{_≡_, _∙_, sym, subst}
+use mathlib.Core.Path.{_≡_, refl, _∙_, sym, ap, subst}
 use Prim.Native.Nat.{_+_, _*_, _/_, _≤_, min}
 use native.Mathlib.Omega.{arith}
 use lib.ListN.{length}
 use Rattle.std.proofs.shelf.Bits.{mul-le}
 use Rattle.chains.specs.System.{machine-of, Bounded}
+use Rattle.refine.specs.Rounds.{Done}
+use Rattle.refine.proofs.Facts.{length-births}
 use Rattle.refine.proofs.Starting.{bounded-of, start-after}
 use Rattle.refine.proofs.refine.Needs as need
 
@@ -51,4 +53,23 @@ run-rounds-counts-requires c κs =
       start = start-after (machine-of (length fs) ws) w (c .split-at-mut-births .result .0 .now) (c .fill-2 .last .words) (c .fill .last .words) (subst (λ m. length (c .fill-2 .last .words) ≡ m * w) (sym states) long) (led ∙ sym states) (c .fill-2 .ensures) (c .fill .ensures);
       births = omega (arith, c .split-at-mut-births .ensures .front-len);
       scratch = omega (arith, states, c .split-at-mut-scratch .ensures .front-len);
+    }
+
+pub returns : need.returns
+returns c =
+    let ws = c .args .words .now in
+    let n = c .args .states in
+    let w = c .row-width-width .result in
+    let k = c .run-rounds-counts .result in
+    let bw = c .run-rounds-counts .last .births in
+    let states : length (c .chain .last .first) ≡ n = omega (arith, c .chain .kept .first, c .split-at-mut-first .ensures .front-len) in
+    let done = subst (λ m. Done (machine-of m ws) (k .rounds) w bw (k .formulas) (c .run-rounds-counts .last .rows) (c .run-rounds-counts .last .leads)) states (c .run-rounds-counts .ensures) in
+    record {
+      machine = (refl, refl);
+      refined = record {
+        askable = c .pre .askable;
+        done = done;
+        narrow = omega (arith, c .row-width-width .ensures .narrow, c .pre .askable .few);
+        room = omega (arith, done .link .room, ap length (done .born), length-births bw (k .formulas), c .run-rounds-counts .kept .births, c .split-at-mut-births .ensures .front-len);
+      };
     }
