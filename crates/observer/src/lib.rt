@@ -6,5 +6,7 @@ mod reading;
 
 pub use asked::Asked;
 pub use distance::Distance;
+pub use distance::DistanceDebug;
+pub use distance::DistancePartialEq;
 pub use measured::measure;
 pub use reading::read;

@@ -5,6 +5,8 @@ use drawing::Drawing;
 use drawing::TroubleDisplay;
 use drawing::decode;
 use drawing::parse;
+use observer::Distance;
+use observer::measure;
 use script::push_name;
 use std::alloc::AllocError;
 use std::alloc::Global;
@@ -19,7 +21,8 @@ const HELP: &str = "tell OLD NEW
 
 Reads two drawings of machines, and says of each what was read: its title, how
 many states, buttons and transitions it has, where it starts, and what can be
-pressed there. Then how large the two are side by side.
+pressed there. Then whether the two do the same from their starts, and if not, how
+many presses ahead one has to look to tell them apart.
 
 A drawing is a text with one statement a line:
 
@@ -124,19 +127,10 @@ fn describe(rt: &LibcRuntime, which: &str, path: &str, drawing: &Drawing) -> Res
     Ok(())
 }
 
-// Says how large the two are side by side, or that this is too large.
-fn describe_both(rt: &LibcRuntime, old: &Drawing, new: &Drawing) -> Result<(), Stop> {
+// The question of both, or what there is too much of.
+fn ask(rt: &LibcRuntime, old: &Drawing, new: &Drawing) -> Result<Vec<u32>, Stop> {
     let wrong = match question(rt.alloc(), old, new) {
-        Ok(words) => {
-            let states = old.states().len().saturating_add(new.states().len());
-            let arrows = old.arrows().len().saturating_add(new.arrows().len());
-            let words = words.len();
-            println!(
-                rt,
-                "side by side: states {states}, transitions {arrows}, as a question {words} words"
-            )?;
-            return Ok(());
-        }
+        Ok(words) => return Ok(words),
         Err(Apart::TooManyStates(n)) => format!(
             rt.alloc(),
             "{n} states; at most 4,096 can be compared"
@@ -155,13 +149,42 @@ fn describe_both(rt: &LibcRuntime, old: &Drawing, new: &Drawing) -> Result<(), S
     Err(Stop::Said)
 }
 
+// How far ahead the two of a question differ, in words that are lent as the call asks.
+fn distance_of(heap: Global, words: &[u32]) -> Result<Distance, AllocError> {
+    let lent = words.len().saturating_mul(128).saturating_add(65536);
+    let mut work = vec![in heap; 0u32; lent]?;
+    Ok(measure(words, work.as_mut_slice()))
+}
+
+// Says whether the two do the same from their starts.
+fn answer(rt: &LibcRuntime, words: &[u32]) -> Result<(), Stop> {
+    match distance_of(rt.alloc(), words)? {
+        Distance::Same => println!(
+            rt,
+            "same: nobody who presses, looks, goes back and tries otherwise can tell them apart"
+        )?,
+        Distance::Differ(1) => println!(
+            rt,
+            "differ: one who looks 1 press ahead can tell them apart"
+        )?,
+        Distance::Differ(d) => println!(
+            rt,
+            "differ: one who looks {d} presses ahead can tell them apart, and nobody who looks less far"
+        )?,
+        Distance::NoMachine => println!(rt, "no machine")?,
+        Distance::Few => println!(rt, "few words")?,
+    }
+    Ok(())
+}
+
 // Reads both drawings before anything is told.
 fn tell(rt: &LibcRuntime, old_path: &str, new_path: &str) -> Result<(), Stop> {
     let old = load(rt, old_path)?;
     let new = load(rt, new_path)?;
     describe(rt, "old", old_path, &old)?;
     describe(rt, "new", new_path, &new)?;
-    describe_both(rt, &old, &new)
+    let words = ask(rt, &old, &new)?;
+    answer(rt, words.as_slice())
 }
 
 // Says how it is called.
