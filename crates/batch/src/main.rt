@@ -1,4 +1,6 @@
 // Answers questions by words, one question a line: batch [--lines WORDS] [--work WORDS].
+#![tactic(auto)]
+
 use query::{
     Answer, Command, Lending, MOST_LENT, MOST_WORDS, Options, ask, parse_options, read_words,
 };

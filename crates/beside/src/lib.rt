@@ -1,4 +1,6 @@
 // Two drawings side by side, as one question.
+#![tactic(auto)]
+
 ghost use Rattle.std.specs.Prelude.{◌≡◌, ℕ, ◌<◌, [], ◌∷◌, ◌++◌, map, length, IfOk, string_bytes, OnOk, slice_index_or};
 ghost use Rattle.lts.specs.Question.{transition_words};
 ghost use Rattle.drawing.specs.Code.{planned};

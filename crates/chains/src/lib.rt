@@ -1,4 +1,6 @@
 // Machines in words, with their transitions chained by source.
+#![tactic(auto)]
+
 ghost use Rattle.std.specs.Prelude.{◌≡◌, ℕ, ◌+◌, ◌*◌, ◌^◌, ◌<◌, ◌≤◌, ◌&&◌, length, if◌then◌else◌, ◌==◌, ◌≢◌, nat_eq, slice_index};
 ghost use Rattle.chains.specs.System.{source_at, label_at, Chained};
 ghost use Rattle.chains.specs.Labels.{in_set};

@@ -1,4 +1,6 @@
 // Drawings: machines that are written down as text.
+#![tactic(auto)]
+
 ghost use Rattle.std.specs.Prelude.{◌≡◌, IfOk, string_bytes};
 ghost use Rattle.drawing.specs.Model.{drawn};
 ghost use Rattle.std.specs.Option.{option_map};

@@ -1,4 +1,6 @@
 // What happens when a formula is added: its terms, who satisfies it, rows and leaders.
+#![tactic(auto)]
+
 ghost use Rattle.std.specs.Prelude.{◌≡◌, ℕ, ◌+◌, ◌*◌, ◌/◌, ◌^◌, ◌<◌, ◌≤◌, not, ◌&&◌, T, ◌∷◌, length, if◌then◌else◌, ◌==◌, nat_eq, slice_index, slice_set};
 ghost use Rattle.lts.specs.Machine.{Step};
 ghost use Rattle.theory.specs.Births.{alike};

@@ -1,4 +1,6 @@
 // Bits of words that a caller lends.
+#![tactic(auto)]
+
 ghost use Rattle.std.specs.Prelude.{◌≡◌, ℕ, ◌-◌, ◌*◌, ◌^◌, ◌<◌, ◌≤◌, min, max, length, if◌then◌else◌, Decides, ◌==◌, ◌≢◌, nat_eq, slice_index};
 ghost use Rattle.lent.specs.Bits.{bit_at, bits_set, FirstDifference, Agree};
 

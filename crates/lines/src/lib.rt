@@ -1,4 +1,6 @@
 // The lines that tell two states apart, in lent words.
+#![tactic(auto)]
+
 mod joining;
 mod line;
 mod marking;

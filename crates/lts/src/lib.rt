@@ -1,4 +1,6 @@
 // Labelled transition systems: the definitions that every contract rests on stand in specs/.
+#![tactic(auto)]
+
 ghost use Rattle.std.specs.Prelude.{◌≡◌};
 ghost use Rattle.lts.specs.Decoding.{first_transition};
 

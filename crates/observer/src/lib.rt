@@ -1,4 +1,6 @@
 // Questions about machines, as words that a caller lends.
+#![tactic(auto)]
+
 mod asked;
 mod compared;
 mod comparison;

@@ -1,4 +1,6 @@
 // Questions and answers as text: one question a line, one answer a line.
+#![tactic(auto)]
+
 mod answer;
 mod options;
 mod plan;

@@ -1,4 +1,6 @@
 // Rounds of partition refinement in lent words.
+#![tactic(auto)]
+
 ghost use Rattle.std.specs.Prelude.{◌≡◌, ℕ, ◌+◌, ◌*◌, ◌^◌, ◌<◌, ◌≤◌, min, length, slice_index};
 ghost use Rattle.chains.specs.Matching.{Represented, LeadsOn, Prepared, related};
 ghost use Rattle.chains.specs.System.{label_at, target_at, machine_of, Chained, Bounded};

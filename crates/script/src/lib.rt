@@ -1,4 +1,6 @@
 // Lines of a drawing: what each says, or what is wrong with it.
+#![tactic(auto)]
+
 ghost use Rattle.std.specs.Prelude.{◌≡◌, ◌++◌, Some, string_bytes, OnOk};
 ghost use Rattle.script.specs.Grammar.{meaning, reading};
 ghost use Rattle.script.specs.Printed.{ReadsBack, expectation, written};

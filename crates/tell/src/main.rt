@@ -1,4 +1,6 @@
 // Tells what two drawings show: tell OLD NEW.
+#![tactic(auto)]
+
 use beside::{Trouble as Apart, question};
 use drawing::{Drawing, decode, parse};
 use observer::{Distance, measure};

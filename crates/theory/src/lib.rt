@@ -1,4 +1,6 @@
 // The theory that comparing rests on: theorems of every machine. The function carries them, so that each check asks for their proofs.
+#![tactic(auto)]
+
 ghost use Rattle.theory.specs.Museum.{MuseumTold, MuseumLines};
 ghost use Rattle.theory.specs.Parts.{Parts};
 
