@@ -7,7 +7,7 @@ use Rattle.beside.proofs.Labelled.{noting_more}
 use Rattle.beside.proofs.note_all.Goals as goal
 
 pub loop-button-init : goal.loop-button-init
-loop-button-init c = record { table = refl; given = c.new-labels.ensures.items }
+loop-button-init c = record { table = refl; given = c.new_labels.ensures.items }
 
 pub loop-button-preserved : goal.loop-button-preserved
 loop-button-preserved c =
@@ -16,13 +16,13 @@ loop-button-preserved c =
     let i = c.loop-button.button-index in
     let bs = c.args.buttons.now in
     let button = c.button-item.result in
-    let noted = rw c.in-ok-label.was at c.note.ensures in
-    let text : c.as-str.result.now ≡ string_bytes button = c.as-str.ensures.value in
-    let more = noting_more start (map string_bytes (take i bs)) (names c.loop-button.all) (vec_items c.loop-button.labels) c.as-str.result.now all c.in-ok-label.label c.loop-button.invariant noted.now_names noted.number in
-    let front : map string_bytes (take i bs) ++ (c.as-str.result.now ∷ []) ≡ map string_bytes (take (i + 1) bs) =
+    let noted = rw c.in_ok-label.was at c.note.ensures in
+    let text : c.as_str.result.now ≡ string_bytes button = c.as_str.ensures.value in
+    let more = noting_more start (map string_bytes (take i bs)) (names c.loop-button.all) (vec_items c.loop-button.labels) c.as_str.result.now all c.in_ok-label.label c.loop-button.invariant noted.now_names noted.number in
+    let front : map string_bytes (take i bs) ++ (c.as_str.result.now ∷ []) ≡ map string_bytes (take (i + 1) bs) =
     ap (λ t. map string_bytes (take i bs) ++ (t ∷ [])) (text ∙ ap string_bytes c.button-item.is) ∙ sym (map_more string_bytes bs i button (omega arith)) in
     let P : List Name → List ℕ → Type 0 = λ ns ls. Noting start ns all ls in
-    subst (λ ns. P ns (vec_items c.push.new.self)) front (subst (P (map string_bytes (take i bs) ++ (c.as-str.result.now ∷ []))) (sym c.in-ok-push.ensures.items) more)
+    subst (λ ns. P ns (vec_items c.push.new.self)) front (subst (P (map string_bytes (take i bs) ++ (c.as_str.result.now ∷ []))) (sym c.in_ok-push.ensures.items) more)
 
 pub returns : goal.returns
 returns c =

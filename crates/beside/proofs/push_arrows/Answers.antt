@@ -7,8 +7,8 @@ use Rattle.beside.proofs.push_arrows.Goals as goal
 
 pub loop-a-preserved : goal.loop-a-preserved
 loop-a-preserved c =
-    words_more (relabelled c.args.shift c.args.labels.now) c.args.arrows.now c.loop-a.a-index (vec_items c.args.words.now) (vec_items c.loop-a.words) (vec_items c.push-arrow.new.words) (omega arith) c.loop-a.invariant
-    c.in-ok-push-arrow.ensures
+    words_more (relabelled c.args.shift c.args.labels.now) c.args.arrows.now c.loop-a.a-index (vec_items c.args.words.now) (vec_items c.loop-a.words) (vec_items c.push_arrow.new.words) (omega arith) c.loop-a.invariant
+    c.in_ok-push_arrow.ensures
 
 pub returns : goal.returns
 returns c =

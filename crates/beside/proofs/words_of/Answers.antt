@@ -6,17 +6,17 @@ use Rattle.beside.specs.Asks.{Movable, no_arrow, relabelled}
 use Rattle.beside.proofs.Moves.{movable_all, pieces}
 use Rattle.beside.proofs.words_of.Goals as goal
 
-pub push-arrows-requires : goal.push-arrows-requires
-push-arrows-requires c =
+pub push_arrows-requires : goal.push_arrows-requires
+push_arrows-requires c =
     let d = c.args.old.now in
-    let ls = c.args.old-labels.now in
+    let ls = c.args.old_labels.now in
     subst (λ rs. (i : ℕ) → i < length rs → Movable 0 ls (get_or rs i no_arrow)) (sym c.arrows-3.ensures)
     (movable_all 0 (length (names d.states)) (length (names d.buttons)) ls (vec_items d.arrows) d.arrows_within (omega (arith, c.requires.states)) c.requires.first_labels c.requires.first_small)
 
-pub push-arrows-requires-2 : goal.push-arrows-requires-2
-push-arrows-requires-2 c =
+pub push_arrows-requires-2 : goal.push_arrows-requires-2
+push_arrows-requires-2 c =
     let d = c.args.new.now in
-    let ls = c.args.new-labels.now in
+    let ls = c.args.new_labels.now in
     let shift = c.len-shift.result in
     let is : shift ≡ length (names c.args.old.now.states) = c.len-shift.ensures.value ∙ ap (λ n. length (names n)) c.states.ensures in
     subst (λ rs. (i : ℕ) → i < length rs → Movable shift ls (get_or rs i no_arrow)) (sym c.arrows-4.ensures)
@@ -30,7 +30,7 @@ returns c =
     let news = ap length c.arrows-2.ensures in
     let first = c.start.ensures in
     let second = c.start-2.ensures in
-    let front = ap (λ rs. transition_words (map (relabelled 0 c.args.old-labels.now) rs)) c.arrows-3.ensures in
-    let back = ap (λ rs. transition_words (map (relabelled c.len-shift.result c.args.new-labels.now) rs)) c.arrows-4.ensures ∙ ap (λ n. transition_words (map (relabelled n c.args.new-labels.now) (vec_items c.args.new.now.arrows))) shift in
-    let all = pieces _ _ _ _ _ _ _ _ _ _ _ _ _ c.new-words.ensures.items c.in-ok-push.ensures.items c.in-ok-push-2.ensures.items c.in-ok-push-arrows.ensures c.in-ok-push-arrows-2.ensures c.in-ok-push-3.ensures.items c.in-ok-push-4.ensures.items in
+    let front = ap (λ rs. transition_words (map (relabelled 0 c.args.old_labels.now) rs)) c.arrows-3.ensures in
+    let back = ap (λ rs. transition_words (map (relabelled c.len-shift.result c.args.new_labels.now) rs)) c.arrows-4.ensures ∙ ap (λ n. transition_words (map (relabelled n c.args.new_labels.now) (vec_items c.args.new.now.arrows))) shift in
+    let all = pieces _ _ _ _ _ _ _ _ _ _ _ _ _ c.new-words.ensures.items c.in_ok-push.ensures.items c.in_ok-push-2.ensures.items c.in_ok-push_arrows.ensures c.in_ok-push_arrows-2.ensures c.in_ok-push-3.ensures.items c.in_ok-push-4.ensures.items in
     all ∙ (λ i. (shift i + more i) ∷ (olds i + news i) ∷ (front i ++ (back i ++ (first i ∷ (shift i + second i) ∷ []))))

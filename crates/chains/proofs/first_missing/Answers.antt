@@ -18,15 +18,15 @@ search-preserved c =
     let ws = c.args.system.words.now in
     let bit = in_set c.args.sets.now (block_at ws c.args.old.now c.search.j) (label_at ws c.search.j) in
     listed_next ws c.args.old.now c.args.system.first.now c.args.system.next.now c.args.x c.search.j c.args.sets.now
-    c.requires.ready.represented (omega arith) c.search.invariant.0 c.search.invariant.1 (eqb-true bit 1 (sym c.if-not-has-label.ensures))
+    c.requires.ready.represented (omega arith) c.search.invariant.0 c.search.invariant.1 (eqb-true bit 1 (sym c.if-not-has_label.ensures))
 
-pub returns-then-not-has-label : goal.returns-then-not-has-label
-returns-then-not-has-label c =
+pub returns-then-not-has_label : goal.returns-then-not-has_label
+returns-then-not-has_label c =
     let ws = c.args.system.words.now in
     let bit = in_set c.args.sets.now (block_at ws c.args.old.now c.search.j) (label_at ws c.search.j) in
     record {
       within = omega arith;
       of = c.search.invariant.0.here (omega arith);
-      missing = λ e. both_ways _ (sym c.if-not-has-label.ensures) (eq-eqb bit 1 e);
+      missing = λ e. both_ways _ (sym c.if-not-has_label.ensures) (eq-eqb bit 1 e);
       before = c.search.invariant.1;
     }

@@ -22,8 +22,8 @@ loop-j-init c =
 pub loop-j-preserved : goal.loop-j-preserved
 loop-j-preserved c =
     firsts_next c.args.system.words.now c.args.old.now c.args.system.first.now c.args.system.next.now c.args.skips.now c.loop-j.skips c.args.s c.loop-j.j c.loop-j.last
-    c.args.sets.now c.loop-j.sets c.add-label-of-last.new.sets c.requires.chained c.requires.ready.bounded (omega arith) c.requires.emptied c.loop-j.invariant
-    c.add-label-of-last.result (omega arith) c.add-label-of-last.ensures.latest c.add-label-of-last.ensures.added
+    c.args.sets.now c.loop-j.sets c.add_label_of-last.new.sets c.requires.chained c.requires.ready.bounded (omega arith) c.requires.emptied c.loop-j.invariant
+    c.add_label_of-last.result (omega arith) c.add_label_of-last.ensures.latest c.add_label_of-last.ensures.added
 
 pub returns : goal.returns
 returns c = record {

@@ -16,9 +16,9 @@ more ws old skips skips' g s before here kept j h l = elim (cases_eq (source_at 
 pub loop-s-preserved : goal.loop-s-preserved
 loop-s-preserved c =
     let ws = c.args.system.words.now in
-    let after = c.link-firsts.ensures in (
+    let after = c.link_firsts.ensures in (
       after.represented,
-      more ws c.args.old.now c.loop-s.skips c.link-firsts.new.skips (length c.args.system.next.now) c.loop-s.s c.loop-s.invariant.1 after.firsts after.others,
+      more ws c.args.old.now c.loop-s.skips c.link_firsts.new.skips (length c.args.system.next.now) c.loop-s.s c.loop-s.invariant.1 after.firsts after.others,
     )
 
 pub returns : goal.returns

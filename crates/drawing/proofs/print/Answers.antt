@@ -12,23 +12,23 @@ pub returns : goal.returns
 returns c =
     let p = planned c.args.drawing.now in
     record {
-      bytes = pieces p (string_bytes c.new-out.result) (string_bytes c.push-title.new.out) (string_bytes c.push-line.new.out) (string_bytes c.push-states.new.out) (string_bytes c.push-arrows.new.out)
+      bytes = pieces p (string_bytes c.new-out.result) (string_bytes c.push_title.new.out) (string_bytes c.push_line.new.out) (string_bytes c.push_states.new.out) (string_bytes c.push_arrows.new.out)
           c.new-out.ensures.bytes
-          (c.in-ok-push-title.ensures ∙ ap (λ o. string_bytes c.new-out.result ++ flat_map line_of (map machine (option_to_list o))) c.title.ensures)
-          (c.in-ok-push-line.ensures ∙ ap (λ n. string_bytes c.push-title.new.out ++ line_of (start n)) c.name-at.ensures)
-          c.in-ok-push-states.ensures
-          c.in-ok-push-arrows.ensures;
+          (c.in_ok-push_title.ensures ∙ ap (λ o. string_bytes c.new-out.result ++ flat_map line_of (map machine (option_to_list o))) c.title.ensures)
+          (c.in_ok-push_line.ensures ∙ ap (λ n. string_bytes c.push_title.new.out ++ line_of (start n)) c.name_at.ensures)
+          c.in_ok-push_states.ensures
+          c.in_ok-push_arrows.ensures;
       again = again;
     }
 
-pub returns-in-err-push-title : goal.returns-in-err-push-title
-returns-in-err-push-title c = record { bytes = search rules; again = again }
+pub returns-in_err-push_title : goal.returns-in_err-push_title
+returns-in_err-push_title c = record { bytes = search rules; again = again }
 
-pub returns-in-err-push-line : goal.returns-in-err-push-line
-returns-in-err-push-line c = record { bytes = search rules; again = again }
+pub returns-in_err-push_line : goal.returns-in_err-push_line
+returns-in_err-push_line c = record { bytes = search rules; again = again }
 
-pub returns-in-err-push-states : goal.returns-in-err-push-states
-returns-in-err-push-states c = record { bytes = search rules; again = again }
+pub returns-in_err-push_states : goal.returns-in_err-push_states
+returns-in_err-push_states c = record { bytes = search rules; again = again }
 
-pub returns-in-err-push-arrows : goal.returns-in-err-push-arrows
-returns-in-err-push-arrows c = record { bytes = search rules; again = again }
+pub returns-in_err-push_arrows : goal.returns-in_err-push_arrows
+returns-in_err-push_arrows c = record { bytes = search rules; again = again }

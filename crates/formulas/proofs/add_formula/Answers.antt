@@ -40,7 +40,7 @@ returns c =
     let a = adding ws fs ns c.args.rows.now c.args.leads.now (births_of c.args.births.now c.args.count) (birth_of c.args.birth) c.args.w
     c.requires.chained c.requires.bounded c.requires.reach c.requires.lacks c.requires.link in
     record {
-      births = c.write-birth.ensures;
-      link = link_added ws fs ns c.args.rows.now c.args.leads.now c.args.births.now c.evaluate.new.holds c.extend-rows.new.rows c.split.new.leads
-          c.args.w c.args.count (birth_of c.args.birth) a c.requires.room (omega arith) (omega arith) (omega arith) c.evaluate.ensures c.extend-rows.ensures c.split.ensures;
+      births = c.write_birth.ensures;
+      link = link_added ws fs ns c.args.rows.now c.args.leads.now c.args.births.now c.evaluate.new.holds c.extend_rows.new.rows c.split.new.leads
+          c.args.w c.args.count (birth_of c.args.birth) a c.requires.room (omega arith) (omega arith) (omega arith) c.evaluate.ensures c.extend_rows.ensures c.split.ensures;
     }

@@ -10,9 +10,9 @@ agreement-requires c =
       reach = omega arith;
       state = omega arith;
       mask = c.requires.mask;
-      within = c.nonzero-end-to.ensures.within;
-      before = c.first-nonzero-from.ensures.before;
-      after = c.nonzero-end-to.ensures.after;
+      within = c.nonzero_end-to.ensures.within;
+      before = c.first_nonzero-from.ensures.before;
+      after = c.nonzero_end-to.ensures.after;
     }
 
 pub loop-v-preserved : goal.loop-v-preserved

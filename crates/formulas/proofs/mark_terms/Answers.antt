@@ -6,8 +6,8 @@ use Rattle.formulas.proofs.Extending.{row_end, row_long}
 use Rattle.formulas.proofs.Marking.{terms_next}
 use Rattle.formulas.proofs.mark_terms.Goals as goal
 
-pub mark-term-requires : goal.mark-term-requires
-mark-term-requires c =
+pub mark_term-requires : goal.mark_term-requires
+mark_term-requires c =
     let n = length c.args.system.first.now in
     let j = c.loop-j.j in
     let h : j < length c.args.system.next.now = omega arith in
@@ -33,8 +33,8 @@ loop-j-preserved c =
     let h : j < length ns = omega arith in
     let u = row_end c.args.birth.reach n c.args.w c.requires.reach in (
       at_next ws fs ns c.args.birth.lack j c.requires.chained h c.loop-j.invariant.0,
-      terms_next ws fs ns c.args.rows.now c.args.w c.args.birth.label c.args.birth.reach c.args.birth.lack j c.loop-j.mask c.mark-term.new.mask c.requires.chained h c.loop-j.invariant.0
-          (row_long c.args.rows.now c.args.w c.args.birth.reach (omega arith)) c.loop-j.invariant.1 c.mark-term.ensures,
+      terms_next ws fs ns c.args.rows.now c.args.w c.args.birth.label c.args.birth.reach c.args.birth.lack j c.loop-j.mask c.mark_term.new.mask c.requires.chained h c.loop-j.invariant.0
+          (row_long c.args.rows.now c.args.w c.args.birth.reach (omega arith)) c.loop-j.invariant.1 c.mark_term.ensures,
     )
 
 pub returns : goal.returns

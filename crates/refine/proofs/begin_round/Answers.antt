@@ -5,7 +5,7 @@ use Rattle.refine.proofs.begin_round.Goals as goal
 pub represent-requires : goal.represent-requires
 represent-requires c =
     let n = length c.args.system.first.now in
-    let same = c.copy-from-slice.ensures.after in
+    let same = c.copy_from_slice.ensures.after in
     record {
       chained = c.requires.chained;
       ready = record {
@@ -13,7 +13,7 @@ represent-requires c =
         bounded = c.requires.bounded;
         each = ap length same ∙ c.requires.led;
         blocks = λ s h. subst (λ (l : List ℕ). get_or l s 0 < n) (sym same) (c.requires.leaders s h);
-        room = c.split-at-mut-sets.ensures.front-len;
+        room = c.split_at_mut-sets.ensures.front-len;
       };
       each = c.requires.skips;
     }

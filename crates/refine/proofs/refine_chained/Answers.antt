@@ -6,64 +6,64 @@ use Rattle.refine.proofs.Facts.{length_births}
 use Rattle.refine.proofs.Starting.{bounded_of, start_after}
 use Rattle.refine.proofs.refine_chained.Goals as goal
 
-pub split-at-mut-rows-requires : goal.split-at-mut-rows-requires
-split-at-mut-rows-requires c =
+pub split_at_mut-rows-requires : goal.split_at_mut-rows-requires
+split_at_mut-rows-requires c =
     let n = c.args.states in
-    let w = c.row-width-width.result in
+    let w = c.row_width-width.result in
     let wide = mul-le n w 4096 w c.requires.askable.few (omega arith) in
-    omega (arith, wide, c.requires.enough, c.requires.askable.whole, c.requires.askable.few, c.row-width-width.ensures.narrow, c.split-at-mut-next.ensures.back_len, c.split-at-mut-skips.ensures.back_len, c.split-at-mut-first.ensures.back_len, c.split-at-mut-old.ensures.back_len, c.split-at-mut-leads.ensures.back_len, c.split-at-mut-births.ensures.back_len, c.split-at-mut-scratch.ensures.back_len)
+    omega (arith, wide, c.requires.enough, c.requires.askable.whole, c.requires.askable.few, c.row_width-width.ensures.narrow, c.split_at_mut-next.ensures.back_len, c.split_at_mut-skips.ensures.back_len, c.split_at_mut-first.ensures.back_len, c.split_at_mut-old.ensures.back_len, c.split_at_mut-leads.ensures.back_len, c.split_at_mut-births.ensures.back_len, c.split_at_mut-scratch.ensures.back_len)
 
 pub chain-requires : goal.chain-requires
 chain-requires c =
     let ws = c.args.words.now in
-    let ns = c.split-at-mut-next.result.0.now in
-    let all = c.split-at-mut-next.ensures.front-len in
-    let each = c.split-at-mut-first.ensures.front-len in
+    let ns = c.split_at_mut-next.result.0.now in
+    let all = c.split_at_mut-next.ensures.front-len in
+    let each = c.split_at_mut-first.ensures.front-len in
     record {
       whole = omega (arith, c.requires.askable.whole);
       few = omega (arith, c.requires.askable.short);
       sources = λ j h. omega (arith, (bounded_of c.args.states ws ns (omega (arith, c.requires.askable.whole)) c.requires.askable.inside).source j h);
     }
 
-pub run-rounds-counts-requires : goal.run-rounds-counts-requires
-run-rounds-counts-requires c =
+pub run_rounds-counts-requires : goal.run_rounds-counts-requires
+run_rounds-counts-requires c =
     let ws = c.args.words.now in
     let n = c.args.states in
-    let w = c.row-width-width.result in
+    let w = c.row_width-width.result in
     let fs = c.chain.new.first in
     let ns = c.chain.new.next in
-    let states : length fs ≡ n = omega (arith, c.chain.auto.first, c.split-at-mut-first.ensures.front-len) in
-    let count : length ns ≡ length ws / 3 = omega (arith, c.chain.auto.next, c.split-at-mut-next.ensures.front-len) in
+    let states : length fs ≡ n = omega (arith, c.chain.auto.first, c.split_at_mut-first.ensures.front-len) in
+    let count : length ns ≡ length ws / 3 = omega (arith, c.chain.auto.next, c.split_at_mut-next.ensures.front-len) in
     let whole : length ws ≡ 3 * length ns = omega (arith, c.requires.askable.whole) in
-    let led : length c.fill.new.words ≡ n = omega (arith, c.fill.auto.words, c.split-at-mut-leads.ensures.front-len) in
-    let long : length c.fill-2.new.words ≡ n * w = omega (arith, c.fill-2.auto.words, c.split-at-mut-rows.ensures.front-len) in
+    let led : length c.fill.new.words ≡ n = omega (arith, c.fill.auto.words, c.split_at_mut-leads.ensures.front-len) in
+    let long : length c.fill-2.new.words ≡ n * w = omega (arith, c.fill-2.auto.words, c.split_at_mut-rows.ensures.front-len) in
     record {
       fixed = record {
         chained = c.chain.ensures;
         bounded = subst (λ m. Bounded m ws ns) (sym states) (bounded_of n ws ns whole c.requires.askable.inside);
         some = omega (arith, states, c.requires.askable.some);
         few = omega (arith, states, c.requires.askable.few);
-        wide = subst (λ m. min m (length ns + 1) ≤ 32 * w) (sym states) (subst (λ g. min n (g + 1) ≤ 32 * w) (sym count) c.row-width-width.ensures.wide);
-        narrow = omega (arith, c.row-width-width.ensures.narrow, c.requires.askable.few);
+        wide = subst (λ m. min m (length ns + 1) ≤ 32 * w) (sym states) (subst (λ g. min n (g + 1) ≤ 32 * w) (sym count) c.row_width-width.ensures.wide);
+        narrow = omega (arith, c.row_width-width.ensures.narrow, c.requires.askable.few);
       };
-      each = omega (arith, led, c.split-at-mut-old.ensures.front-len);
-      skips = omega (arith, count, c.split-at-mut-skips.ensures.front-len);
-      start = start_after (machine_of (length fs) ws) w c.split-at-mut-births.result.0.now c.fill-2.new.words c.fill.new.words (subst (λ m. length c.fill-2.new.words ≡ m * w) (sym states) long) (led ∙ sym states) c.fill-2.ensures c.fill.ensures;
-      births = omega (arith, c.split-at-mut-births.ensures.front-len);
-      scratch = omega (arith, states, c.split-at-mut-scratch.ensures.front-len);
+      each = omega (arith, led, c.split_at_mut-old.ensures.front-len);
+      skips = omega (arith, count, c.split_at_mut-skips.ensures.front-len);
+      start = start_after (machine_of (length fs) ws) w c.split_at_mut-births.result.0.now c.fill-2.new.words c.fill.new.words (subst (λ m. length c.fill-2.new.words ≡ m * w) (sym states) long) (led ∙ sym states) c.fill-2.ensures c.fill.ensures;
+      births = omega (arith, c.split_at_mut-births.ensures.front-len);
+      scratch = omega (arith, states, c.split_at_mut-scratch.ensures.front-len);
     }
 
 pub returns : goal.returns
 returns c =
     let ws = c.args.words.now in
     let n = c.args.states in
-    let w = c.row-width-width.result in
-    let k = c.run-rounds-counts.result in
-    let bw = c.run-rounds-counts.new.births in
-    let states : length c.chain.new.first ≡ n = omega (arith, c.chain.auto.first, c.split-at-mut-first.ensures.front-len) in
+    let w = c.row_width-width.result in
+    let k = c.run_rounds-counts.result in
+    let bw = c.run_rounds-counts.new.births in
+    let states : length c.chain.new.first ≡ n = omega (arith, c.chain.auto.first, c.split_at_mut-first.ensures.front-len) in
     let ns = c.chain.new.next in
-    let whole : length ws ≡ 3 * length ns = omega (arith, c.chain.auto.next, c.split-at-mut-next.ensures.front-len, c.requires.askable.whole) in
-    let done = subst (λ m. Done (machine_of m ws) k.rounds w bw k.formulas c.run-rounds-counts.new.rows c.run-rounds-counts.new.leads) states c.run-rounds-counts.ensures in
+    let whole : length ws ≡ 3 * length ns = omega (arith, c.chain.auto.next, c.split_at_mut-next.ensures.front-len, c.requires.askable.whole) in
+    let done = subst (λ m. Done (machine_of m ws) k.rounds w bw k.formulas c.run_rounds-counts.new.rows c.run_rounds-counts.new.leads) states c.run_rounds-counts.ensures in
     record {
       machine = (refl, refl);
       refined = record {
@@ -72,7 +72,7 @@ returns c =
         bounded = bounded_of n ws ns whole c.requires.askable.inside;
         each = states;
         done = done;
-        narrow = omega (arith, c.row-width-width.ensures.narrow, c.requires.askable.few);
-        room = omega (arith, done.link.room, ap length done.born, length_births bw k.formulas, c.run-rounds-counts.auto.births, c.split-at-mut-births.ensures.front-len);
+        narrow = omega (arith, c.row_width-width.ensures.narrow, c.requires.askable.few);
+        room = omega (arith, done.link.room, ap length done.born, length_births bw k.formulas, c.run_rounds-counts.auto.births, c.split_at_mut-births.ensures.front-len);
       };
     }

@@ -7,8 +7,8 @@ turns-init c =
     let h = c.states.invariant in
     (h.link, begin_turn c.args.system.words.now c.args.system.first.now c.args.system.next.now c.args.w c.args.round.number c.states.s c.states.births c.states.count c.states.rows c.states.leads c.requires.fixed (omega arith) h)
 
-pub overflow-add-count : goal.overflow-add-count
-overflow-add-count c =
+pub overflow_add-count : goal.overflow_add-count
+overflow_add-count c =
     let h = c.if-not-turn.ensures in
     omega (arith, h.link.room, length_births c.turn.new.births (c.turns.count + 1), c.requires.fixed.narrow)
 

@@ -9,9 +9,9 @@ use Rattle.drawing.proofs.written.push_arrows.Goals as goal
 pub loop-arrow-preserved : goal.loop-arrow-preserved
 loop-arrow-preserved c =
     let p = planned c.args.drawing.now in
-    lines_more line_of (spelled p.states p.buttons) (string_bytes c.args.out.now) (string_bytes c.loop-arrow.out) (string_bytes c.push-arrow.new.out)
+    lines_more line_of (spelled p.states p.buttons) (string_bytes c.args.out.now) (string_bytes c.loop-arrow.out) (string_bytes c.push_arrow.new.out)
     c.arrows-arrows.result.now c.loop-arrow.arrow-index (record { source = 0; button = 0; target = 0 })
-    c.loop-arrow-test.true c.loop-arrow.invariant c.in-ok-push-arrow.ensures
+    c.loop-arrow-test.true c.loop-arrow.invariant c.in_ok-push_arrow.ensures
 
 pub returns : goal.returns
 returns c =

@@ -6,6 +6,6 @@ use Rattle.drawing.proofs.written.push_line.Goals as goal
 
 pub returns : goal.returns
 returns c =
-    pushed_three c.push.result (string_bytes c.args.out.now) (string_bytes c.push-str.new.self) (string_bytes c.push-name.new.out) (string_bytes c.push.new.self)
+    pushed_three c.push.result (string_bytes c.args.out.now) (string_bytes c.push_str.new.self) (string_bytes c.push_name.new.out) (string_bytes c.push.new.self)
     c.args.head.now (written c.args.name.now) (10 ∷ []) (encode 10)
-    (c.push.ensures.ascii (lit< tt)) c.in-ok-push-str.ensures.bytes c.in-ok-push-name.ensures.bytes c.push.ensures.bytes
+    (c.push.ensures.ascii (lit< tt)) c.in_ok-push_str.ensures.bytes c.in_ok-push_name.ensures.bytes c.push.ensures.bytes

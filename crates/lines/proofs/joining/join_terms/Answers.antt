@@ -5,8 +5,8 @@ use Rattle.lines.specs.Joins.{Appends, BodyIs, body_by}
 use Rattle.lines.proofs.Appending.{joined_grows}
 use Rattle.lines.proofs.joining.join_terms.Goals as goal
 
-pub join-term-body-requires : goal.join-term-body-requires
-join-term-body-requires c =
+pub join_term-body-requires : goal.join_term-body-requires
+join_term-body-requires c =
     let mask = c.args.mask.now in
     let reach = c.args.reach.now in
     let places = c.args.places.now in
@@ -26,6 +26,6 @@ loop-i-preserved c =
     let mask = c.args.mask.now in
     let reach = c.args.reach.now in
     let places = c.args.places.now in
-    let more = c.join-term-body.ensures c.args.next (body_by mask reach places c.args.next c.loop-i.i) c.loop-i.invariant.0 in
-    subst (λ k. BodyIs c.join-term-body.result c.args.next (body_by mask reach places c.args.next k) × Appends c.args.lines.now c.args.next (body_by mask reach places c.args.next k).ands c.join-term-body.new.lines)
+    let more = c.join_term-body.ensures c.args.next (body_by mask reach places c.args.next c.loop-i.i) c.loop-i.invariant.0 in
+    subst (λ k. BodyIs c.join_term-body.result c.args.next (body_by mask reach places c.args.next k) × Appends c.args.lines.now c.args.next (body_by mask reach places c.args.next k).ands c.join_term-body.new.lines)
     (sym (add-one c.loop-i.i)) (more.is, more.wrote c.args.lines.now c.loop-i.invariant.1)

@@ -5,20 +5,20 @@ use Rattle.lines.proofs.Passing.{within}
 use Rattle.lines.proofs.Counted.{starts, goes_on, ends, few}
 use Rattle.lines.proofs.marking.mark.Goals as goal
 
-pub mark-one-requires : goal.mark-one-requires
-mark-one-requires c = record { needed = omega (arith, within c.args.refined c.requires.refined c.args.j c.requires.formula, c.requires.needed); negated = omega (arith, c.requires.needed, c.requires.negated) }
+pub mark_one-requires : goal.mark_one-requires
+mark_one-requires c = record { needed = omega (arith, within c.args.refined c.requires.refined c.args.j c.requires.formula, c.requires.needed); negated = omega (arith, c.requires.needed, c.requires.negated) }
 
 pub loop-i-init : goal.loop-i-init
 loop-i-init c =
-    starts c.args.refined c.requires.refined c.args.j c.args.negate c.mark-one.new.needed c.mark-one.new.negated
-    (subst (λ w. Demanded (demand_one c.args.j c.args.negate) w c.mark-one.new.needed c.mark-one.new.negated) c.requires.needed c.mark-one.ensures)
+    starts c.args.refined c.requires.refined c.args.j c.args.negate c.mark_one.new.needed c.mark_one.new.negated
+    (subst (λ w. Demanded (demand_one c.args.j c.args.negate) w c.mark_one.new.needed c.mark_one.new.negated) c.requires.needed c.mark_one.ensures)
 
 -- formula i - 1 has passed its demands on
-again : (c : goal.After-slice-known-in-loop-i-3·1) → Marking c.args.refined (wanted_in c.args.refined c.args.j c.args.negate) (c.loop-i.i - 1) c.pass-on-lines.new.needed c.pass-on-lines.new.negated (c.loop-i.lines + c.pass-on-lines.result)
-again c = goes_on c.args.refined c.requires.refined c.args.j c.args.negate c.loop-i.i c.loop-i-test.true (omega (arith, c.loop-i.auto.i)) c.loop-i.needed c.loop-i.negated c.pass-on-lines.new.needed c.pass-on-lines.new.negated c.loop-i.lines c.pass-on-lines.result c.loop-i.invariant c.pass-on-lines.ensures
+again : (c : goal.After-slice-known-in-loop-i-3·1) → Marking c.args.refined (wanted_in c.args.refined c.args.j c.args.negate) (c.loop-i.i - 1) c.pass_on-lines.new.needed c.pass_on-lines.new.negated (c.loop-i.lines + c.pass_on-lines.result)
+again c = goes_on c.args.refined c.requires.refined c.args.j c.args.negate c.loop-i.i c.loop-i-test.true (omega (arith, c.loop-i.auto.i)) c.loop-i.needed c.loop-i.negated c.pass_on-lines.new.needed c.pass_on-lines.new.negated c.loop-i.lines c.pass_on-lines.result c.loop-i.invariant c.pass_on-lines.ensures
 
-pub overflow-add-lines : goal.overflow-add-lines
-overflow-add-lines c = omega (arith, few c.args.refined c.requires.refined c.args.j c.args.negate (c.loop-i.i - 1) c.pass-on-lines.new.needed c.pass-on-lines.new.negated (c.loop-i.lines + c.pass-on-lines.result) (again c))
+pub overflow_add-lines : goal.overflow_add-lines
+overflow_add-lines c = omega (arith, few c.args.refined c.requires.refined c.args.j c.args.negate (c.loop-i.i - 1) c.pass_on-lines.new.needed c.pass_on-lines.new.negated (c.loop-i.lines + c.pass_on-lines.result) (again c))
 
 pub loop-i-preserved : goal.loop-i-preserved
 loop-i-preserved c = again c

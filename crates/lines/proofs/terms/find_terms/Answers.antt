@@ -5,11 +5,11 @@ use Rattle.formulas.specs.Marks.{Terms, Differing}
 use Rattle.lines.proofs.Known.{lack_below, reach_below, differing, terms_are}
 use Rattle.lines.proofs.terms.find_terms.Goals as goal
 
-pub mark-terms-requires : goal.mark-terms-requires
-mark-terms-requires c =
+pub mark_terms-requires : goal.mark_terms-requires
+mark_terms-requires c =
     let r = c.args.refined in
     let h = c.requires.refined in
-    let e = c.birth-in-birth.ensures in
+    let e = c.birth_in-birth.ensures in
     record {
       chained = h.chained;
       bounded = subst (λ n. Bounded n r.words.now r.next.now) (sym h.each) h.bounded;
@@ -24,5 +24,5 @@ mark-terms-requires c =
 pub returns : goal.returns
 returns c =
     let r = c.args.refined in
-    terms_are r c.requires.refined c.args.j c.requires.formula c.mark-terms.new.mask
-    (subst (λ (x : Birth). Terms r.words.now r.rows.now r.width x.label x.reach x.lack (length r.next.now) c.mark-terms.new.mask) c.birth-in-birth.ensures c.mark-terms.ensures)
+    terms_are r c.requires.refined c.args.j c.requires.formula c.mark_terms.new.mask
+    (subst (λ (x : Birth). Terms r.words.now r.rows.now r.width x.label x.reach x.lack (length r.next.now) c.mark_terms.new.mask) c.birth_in-birth.ensures c.mark_terms.ensures)

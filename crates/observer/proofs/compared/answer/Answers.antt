@@ -7,5 +7,5 @@ refine-refined-requires c =
     let read = c.in-Some.ensures.says in
     record {
       askable = askable_of c.args.words.now c.in-Some.asked read;
-      enough = omega (arith, all_words c.args.words.now c.in-Some.asked read, c.requires, c.split-at-mut-scratch.ensures.back_len);
+      enough = omega (arith, all_words c.args.words.now c.in-Some.asked read, c.requires, c.split_at_mut-scratch.ensures.back_len);
     }

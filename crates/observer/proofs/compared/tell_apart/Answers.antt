@@ -9,11 +9,11 @@ use Rattle.observer.proofs.compared.tell_apart.Goals as goal
 pub row-requires : goal.row-requires
 row-requires c = row_inside _ _ c.args.refined.rows.now c.args.refined.width c.args.refined.leads.now c.args.s.0 c.requires.refined.done.link c.requires.one
 
-pub overflow-mul-count : goal.overflow-mul-count
-overflow-mul-count c = omega (arith, c.mark-count.ensures.size, tell_fits c.args.refined c.requires.refined (wanted_in c.args.refined c.in-Some.formula (not c.has-bit-negate.result)))
+pub overflow_mul-count : goal.overflow_mul-count
+overflow_mul-count c = omega (arith, c.mark-count.ensures.size, tell_fits c.args.refined c.requires.refined (wanted_in c.args.refined c.in-Some.formula (not c.has_bit-negate.result)))
 
 pub returns-then-lines-count : goal.returns-then-lines-count
-returns-then-lines-count c = (differ_by c.args.refined c.requires.refined c.args.s.0 c.args.t.0 c.requires.one c.requires.other c.in-Some.formula c.in-Some.ensures c.mark-count.result (all_told c.args.refined c.requires.refined c.args.s.0 c.args.t.0 c.requires.one c.requires.other c.in-Some.formula c.in-Some.ensures c.row.result.now c.row.ensures (not c.has-bit-negate.result) (ap not c.has-bit-negate.ensures) c.mark-count.new.needed c.mark-count.new.negated c.mark-count.result c.mark-count.ensures), c.if-lines-count.true, refl)
+returns-then-lines-count c = (differ_by c.args.refined c.requires.refined c.args.s.0 c.args.t.0 c.requires.one c.requires.other c.in-Some.formula c.in-Some.ensures c.mark-count.result (all_told c.args.refined c.requires.refined c.args.s.0 c.args.t.0 c.requires.one c.requires.other c.in-Some.formula c.in-Some.ensures c.row.result.now c.row.ensures (not c.has_bit-negate.result) (ap not c.has_bit-negate.ensures) c.mark-count.new.needed c.mark-count.new.negated c.mark-count.result c.mark-count.ensures), c.if-lines-count.true, refl)
 
 pub tell-requires : goal.tell-requires
 tell-requires c =
@@ -22,12 +22,12 @@ tell-requires c =
     record {
       refined = c.requires.refined;
       needs = c.mark-count.ensures;
-      mask = omega (arith, c.split-at-mut-mask.ensures.front-len);
-      places = omega (arith, few, ap length done.born, done.link.room, c.requires.refined.narrow, c.requires.scratch, c.split-at-mut-needed.ensures.back_len, c.split-at-mut-negated.ensures.back_len, c.split-at-mut-mask.ensures.back_len);
+      mask = omega (arith, c.split_at_mut-mask.ensures.front-len);
+      places = omega (arith, few, ap length done.born, done.link.room, c.requires.refined.narrow, c.requires.scratch, c.split_at_mut-needed.ensures.back_len, c.split_at_mut-negated.ensures.back_len, c.split_at_mut-mask.ensures.back_len);
       room = c.if-lines-count.false;
     }
 
 pub returns : goal.returns
 returns c =
-    let count = all_told c.args.refined c.requires.refined c.args.s.0 c.args.t.0 c.requires.one c.requires.other c.in-Some.formula c.in-Some.ensures c.row.result.now c.row.ensures (not c.has-bit-negate.result) (ap not c.has-bit-negate.ensures) c.mark-count.new.needed c.mark-count.new.negated c.mark-count.result c.mark-count.ensures in
-    (differ_by c.args.refined c.requires.refined c.args.s.0 c.args.t.0 c.requires.one c.requires.other c.in-Some.formula c.in-Some.ensures c.mark-count.result count, stand_first c.args.refined c.requires.refined c.args.s.0 c.args.t.0 c.requires.one c.requires.other c.in-Some.formula c.in-Some.ensures c.row.result.now c.row.ensures (not c.has-bit-negate.result) (ap not c.has-bit-negate.ensures) c.mark-count.result c.args.lines.now c.tell.new.lines count c.tell.ensures)
+    let count = all_told c.args.refined c.requires.refined c.args.s.0 c.args.t.0 c.requires.one c.requires.other c.in-Some.formula c.in-Some.ensures c.row.result.now c.row.ensures (not c.has_bit-negate.result) (ap not c.has_bit-negate.ensures) c.mark-count.new.needed c.mark-count.new.negated c.mark-count.result c.mark-count.ensures in
+    (differ_by c.args.refined c.requires.refined c.args.s.0 c.args.t.0 c.requires.one c.requires.other c.in-Some.formula c.in-Some.ensures c.mark-count.result count, stand_first c.args.refined c.requires.refined c.args.s.0 c.args.t.0 c.requires.one c.requires.other c.in-Some.formula c.in-Some.ensures c.row.result.now c.row.ensures (not c.has_bit-negate.result) (ap not c.has_bit-negate.ensures) c.mark-count.result c.args.lines.now c.tell.new.lines count c.tell.ensures)

@@ -4,5 +4,5 @@ use Rattle.std.proofs.lemmas.Bool.{cond-false}
 use Rattle.query.proofs.Choosing.{same_none}
 use Rattle.query.proofs.options.given.Goals as goal
 
-pub returns-in-default : goal.returns-in-default
-returns-in-default c = sym (cond-false (bytes_eq c.args.option.now (codes "--lines")) _ _ (same_none c.args.option.now (codes "--lines") c.in-default.not-text))
+pub returns-in_default : goal.returns-in_default
+returns-in_default c = sym (cond-false (bytes_eq c.args.option.now (codes "--lines")) _ _ (same_none c.args.option.now (codes "--lines") c.in_default.not-text))

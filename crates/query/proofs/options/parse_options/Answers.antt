@@ -5,35 +5,35 @@ use Rattle.query.specs.Reading.{number_of}
 use Rattle.query.proofs.Choosing.{Other, later, same_none, stop_unknown, stop_nothing, stop_number, goes_on, all_read}
 use Rattle.query.proofs.options.parse_options.Goals as goal
 
-pub returns-then-not-gives-room : goal.returns-then-not-gives-room
-returns-then-not-gives-room c =
+pub returns-then-not-gives_room : goal.returns-then-not-gives_room
+returns-then-not-gives_room c =
     let rest = c.loop-rest.rest.now in
     let some : 0 < length rest = search rules in
-    let other : Other c.as-str-option.result.now = same_none _ (codes "--help") (λ e. false≢true (c.if-eq.ensures.1 e)) in
-    stop_unknown string_bytes rest c.option-item.result c.loop-rest.options c.as-str-option.result.now some c.option-item.is c.as-str-option.ensures.value other
-    (sym c.if-not-gives-room.ensures)
+    let other : Other c.as_str-option.result.now = same_none _ (codes "--help") (λ e. false≢true (c.if-eq.ensures.1 e)) in
+    stop_unknown string_bytes rest c.option-item.result c.loop-rest.options c.as_str-option.result.now some c.option-item.is c.as_str-option.ensures.value other
+    (sym c.if-not-gives_room.ensures)
     ∙ c.loop-rest.invariant
 
-pub returns-in-default-values : goal.returns-in-default-values
-returns-in-default-values c =
+pub returns-in_default-values : goal.returns-in_default-values
+returns-in_default-values c =
     let rest = c.loop-rest.rest.now in
     let some : 0 < length rest = search rules in
     let none : length (later rest) < 1 = search rules in
-    let other : Other c.as-str-option.result.now = same_none _ (codes "--help") (λ e. false≢true (c.if-eq.ensures.1 e)) in
-    stop_nothing string_bytes rest c.option-item.result c.loop-rest.options c.as-str-option.result.now some c.option-item.is c.as-str-option.ensures.value other
-    none (sym c.if-not-gives-room.ensures)
+    let other : Other c.as_str-option.result.now = same_none _ (codes "--help") (λ e. false≢true (c.if-eq.ensures.1 e)) in
+    stop_nothing string_bytes rest c.option-item.result c.loop-rest.options c.as_str-option.result.now some c.option-item.is c.as_str-option.ensures.value other
+    none (sym c.if-not-gives_room.ensures)
     ∙ c.loop-rest.invariant
 
-pub returns-in-default-number : goal.returns-in-default-number
-returns-in-default-number c =
+pub returns-in_default-number : goal.returns-in_default-number
+returns-in_default-number c =
     let rest = c.loop-rest.rest.now in
     let some : 0 < length rest = search rules in
     let more : 0 < length (later rest) = search rules in
-    let other : Other c.as-str-option.result.now = same_none _ (codes "--help") (λ e. false≢true (c.if-eq.ensures.1 e)) in
-    let again : c.as-str-in-default-number.result.now ≡ c.as-str.result.now = c.as-str-in-default-number.ensures.value ∙ sym c.as-str.ensures.value in
-    stop_number string_bytes rest c.option-item.result c.loop-rest.options c.as-str-option.result.now some c.option-item.is c.as-str-option.ensures.value other
-    c.value-item.result c.as-str-in-default-number.result.now more c.value-item.is c.as-str-in-default-number.ensures.value (sym c.if-not-gives-room.ensures)
-    (sym c.in-default-number.is ∙ c.number.ensures ∙ ap number_of (sym again))
+    let other : Other c.as_str-option.result.now = same_none _ (codes "--help") (λ e. false≢true (c.if-eq.ensures.1 e)) in
+    let again : c.as_str-in_default-number.result.now ≡ c.as_str.result.now = c.as_str-in_default-number.ensures.value ∙ sym c.as_str.ensures.value in
+    stop_number string_bytes rest c.option-item.result c.loop-rest.options c.as_str-option.result.now some c.option-item.is c.as_str-option.ensures.value other
+    c.value-item.result c.as_str-in_default-number.result.now more c.value-item.is c.as_str-in_default-number.ensures.value (sym c.if-not-gives_room.ensures)
+    (sym c.in_default-number.is ∙ c.number.ensures ∙ ap number_of (sym again))
     ∙ c.loop-rest.invariant
 
 pub loop-rest-preserved : goal.loop-rest-preserved
@@ -41,10 +41,10 @@ loop-rest-preserved c =
     let rest = c.loop-rest.rest.now in
     let some : 0 < length rest = search rules in
     let more : 0 < length (later rest) = search rules in
-    let other : Other c.as-str-option.result.now = same_none _ (codes "--help") (λ e. false≢true (c.if-eq.ensures.1 e)) in
+    let other : Other c.as_str-option.result.now = same_none _ (codes "--help") (λ e. false≢true (c.if-eq.ensures.1 e)) in
     ap (λ o. chosen o (map string_bytes (later (later rest)))) c.given-options.ensures
-    ∙ goes_on string_bytes rest c.option-item.result c.loop-rest.options c.as-str-option.result.now some c.option-item.is c.as-str-option.ensures.value other
-    c.value-item.result c.as-str.result.now more c.value-item.is c.as-str.ensures.value (sym c.if-not-gives-room.ensures)
+    ∙ goes_on string_bytes rest c.option-item.result c.loop-rest.options c.as_str-option.result.now some c.option-item.is c.as_str-option.ensures.value other
+    c.value-item.result c.as_str.result.now more c.value-item.is c.as_str.ensures.value (sym c.if-not-gives_room.ensures)
     c.in-Some.words (sym c.in-Some.is ∙ c.number.ensures)
     ∙ c.loop-rest.invariant
 

@@ -5,10 +5,10 @@ use Rattle.script.specs.Grammar.{bare}
 use Rattle.script.proofs.Cuts.{bare_cut, bare_empty, named_none}
 use Rattle.script.proofs.word.first_word.Goals as goal
 
-pub split-at-requires : goal.split-at-requires
-split-at-requires c = subst (IsCharBoundary c.args.text.now) (sym (c.bare-len.ensures ∙ ap bare c.as-bytes.ensures.value)) (bare_cut c.args.text.now)
+pub split_at-requires : goal.split_at-requires
+split_at-requires c = subst (IsCharBoundary c.args.text.now) (sym (c.bare_len.ensures ∙ ap bare c.as_bytes.ensures.value)) (bare_cut c.args.text.now)
 
-pub returns-then-is-empty : goal.returns-then-is-empty
-returns-then-is-empty c =
-    named_none c.args.text.now (strip_prefix_char 34 c.args.text.now None c.in-default.ensures.cases (lit< tt))
-    (bare_empty _ _ _ _ c.bare-len.ensures c.as-bytes.ensures.value c.split-at.ensures.front-len c.if-is-empty.ensures)
+pub returns-then-is_empty : goal.returns-then-is_empty
+returns-then-is_empty c =
+    named_none c.args.text.now (strip_prefix_char 34 c.args.text.now None c.in_default.ensures.cases (lit< tt))
+    (bare_empty _ _ _ _ c.bare_len.ensures c.as_bytes.ensures.value c.split_at.ensures.front-len c.if-is_empty.ensures)

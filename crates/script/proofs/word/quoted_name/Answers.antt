@@ -5,9 +5,9 @@ use Rattle.script.specs.Grammar.{unquoted}
 use Rattle.script.proofs.Cuts.{unquoted_none, unquoted_some}
 use Rattle.script.proofs.word.quoted_name.Goals as goal
 
-pub returns-in-default : goal.returns-in-default
-returns-in-default c =
-    let none-there = unquoted_none c.args.inner.now (split_parts 34 c.args.inner.now None c.in-default.ensures.cases (lit< tt)) in
+pub returns-in_default : goal.returns-in_default
+returns-in_default c =
+    let none-there = unquoted_none c.args.inner.now (split_parts 34 c.args.inner.now None c.in_default.ensures.cases (lit< tt)) in
     search rules
 
 pub returns : goal.returns

@@ -5,15 +5,15 @@ use Rattle.drawing.specs.Code.{drafted}
 use Rattle.drawing.proofs.Drafts.{finish_none, finish_some}
 use Rattle.drawing.proofs.sketch.Sketch.start_number.Goals as goal
 
-pub returns-in-default : goal.returns-in-default
-returns-in-default c = finish_none c.args.line (drafted c.args.self.now) (ap (option_map (λ p. (p.0, p.1.now))) c.in-default.is)
+pub returns-in_default : goal.returns-in_default
+returns-in_default c = finish_none c.args.line (drafted c.args.self.now) (ap (option_map (λ p. (p.0, p.1.now))) c.in_default.is)
 
-pub returns-in-Some-number-of : goal.returns-in-Some-number-of
-returns-in-Some-number-of c =
-    let found = sym c.in-Some-number-of.ensures in (
-      finish_some c.args.line (drafted c.args.self.now) c.in-Some.at c.in-Some.name.now (Some c.in-Some-number-of.start)
+pub returns-in-Some-number_of : goal.returns-in-Some-number_of
+returns-in-Some-number_of c =
+    let found = sym c.in-Some-number_of.ensures in (
+      finish_some c.args.line (drafted c.args.self.now) c.in-Some.at c.in-Some.name.now (Some c.in-Some-number_of.start)
           (ap (option_map (λ p. (p.0, p.1.now))) c.in-Some.is) found,
-      (place_at _ _ c.in-Some-number-of.start found).0,
+      (place_at _ _ c.in-Some-number_of.start found).0,
     )
 
 pub returns-in-None : goal.returns-in-None

@@ -9,7 +9,7 @@ use Rattle.names.specs.Table.{texts}
 use Rattle.names.proofs.Placed.{noted_there, noted_new, place_new}
 use Rattle.names.proofs.Steps.{grown}
 use Rattle.names.proofs.table.Names.note.Goals as goal
-use Rattle.names.proofs.table.Names.note.Goals.{After-push-reserved}
+use Rattle.names.proofs.table.Names.note.Goals.{After-push_reserved}
 use Rattle.std.specs.String.{string_cmp}
 
 pub returns-in-Some : goal.returns-in-Some
@@ -18,33 +18,33 @@ returns-in-Some c =
     record { now_names = sym (noted_there _ _ c.in-Some.i found); number = found }
 
 -- the name had no place, and i is how many there were
-absent : (c : After-push-reserved) → place (texts c.args.self.now.list) c.args.name.now ≡ None
-absent c = sym c.in-default.ensures
+absent : (c : After-push_reserved) → place (texts c.args.self.now.list) c.args.name.now ≡ None
+absent c = sym c.in_default.ensures
 
-count : (c : After-push-reserved) → c.len-i.result ≡ length (texts c.args.self.now.list)
+count : (c : After-push_reserved) → c.len-i.result ≡ length (texts c.args.self.now.list)
 count c = c.len-i.ensures.value
 
 -- the list got the name
-longer : (c : After-push-reserved) → texts c.push-reserved.new.self ≡ texts c.args.self.now.list ++ (c.args.name.now ∷ [])
+longer : (c : After-push_reserved) → texts c.push_reserved.new.self ≡ texts c.args.self.now.list ++ (c.args.name.now ∷ [])
 longer c =
     let v = c.args.self.now.list in
-    let copy = IfOk-at_ok (λ s. string_bytes s ≡ c.args.name.now) c.in-ok-copy.was c.from-str-2.ensures.ok in
-    ap (map string_bytes) (c.push-reserved.ensures.items ∙ ap (λ l. l ++ (c.in-ok-copy.copy ∷ [])) c.reserve.ensures.items)
-    ∙ map_push string_bytes (vec_items v) c.in-ok-copy.copy ∙ ap (λ s. texts v ++ (s ∷ [])) copy
+    let copy = IfOk-at_ok (λ s. string_bytes s ≡ c.args.name.now) c.in_ok-copy.was c.from_str-2.ensures.ok in
+    ap (map string_bytes) (c.push_reserved.ensures.items ∙ ap (λ l. l ++ (c.in_ok-copy.copy ∷ [])) c.reserve.ensures.items)
+    ∙ map_push string_bytes (vec_items v) c.in_ok-copy.copy ∙ ap (λ s. texts v ++ (s ∷ [])) copy
 
 pub invariant-of-self-2 : goal.invariant-of-self-2
 invariant-of-self-2 c =
     let v = c.args.self.now in
     let new = c.insert.new.self in
-    let key = IfOk-at_ok (λ s. string_bytes s ≡ c.args.name.now) c.in-ok-key.was c.from-str.ensures.ok in
-    let put = rw c.in-ok-insert.was at c.insert.ensures.inserted in
-    let sets = text.put v.numbers new c.in-ok-key.key _ put.3 (btree-map-from-valid string_cmp v.numbers v.lawful) in
-    grown v.list c.push-reserved.new.self v.numbers new c.args.name.now v.apart v.agrees (absent c) (longer c)
+    let key = IfOk-at_ok (λ s. string_bytes s ≡ c.args.name.now) c.in_ok-key.was c.from_str.ensures.ok in
+    let put = rw c.in_ok-insert.was at c.insert.ensures.inserted in
+    let sets = text.put v.numbers new c.in_ok-key.key _ put.3 (btree-map-from-valid string_cmp v.numbers v.lawful) in
+    grown v.list c.push_reserved.new.self v.numbers new c.args.name.now v.apart v.agrees (absent c) (longer c)
     (subst (λ i. UpdatesText v.numbers new c.args.name.now (Some i)) (count c) (subst (λ bs. UpdatesText v.numbers new bs (Some c.len-i.result)) key sets))
 
 pub returns : goal.returns
 returns c =
-    let at = (goal.at.returns c).After-push-reserved in
+    let at = (goal.at.returns c).After-push_reserved in
     let v = texts c.args.self.now.list in
     let n = c.args.name.now in
     record {
