@@ -8,7 +8,7 @@ pub returns-then-xs-i-ne0 : goal.returns-then-xs-i-ne0
 returns-then-xs-i-ne0 c = (
   λ e. absurd (false≢true e),
   λ h. absurd (agree_not c.args.xs.now c.args.ys.now c.args.mask.now c.loop-i.i
-      (omega arith) (omega (arith, c.ok.mask c.loop-i.i)) (omega arith) h),
+      (omega arith) (omega (arith, c.type_inv.mask c.loop-i.i)) (omega arith) h),
 )
 
 -- none of the words has

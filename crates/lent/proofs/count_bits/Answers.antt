@@ -15,4 +15,4 @@ overflow_add-count c =
     omega (arith, bits_most c.args.words.now (32 * (c.loop-i.i + 1)))
 
 pub loop-i-preserved : goal.loop-i-preserved
-loop-i-preserved c = count_more c.args.words.now c.loop-i.i c.loop-i.count (omega (arith, c.ok.words c.loop-i.i)) c.loop-i.invariant
+loop-i-preserved c = count_more c.args.words.now c.loop-i.i c.loop-i.count (omega (arith, c.type_inv.words c.loop-i.i)) c.loop-i.invariant

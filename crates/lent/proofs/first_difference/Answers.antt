@@ -10,7 +10,7 @@ loop-i-preserved c = below_more _ _ c.loop-i.invariant (xor_is_0 _ _ c.if-apart-
 pub returns-then-apart-ne0 : goal.returns-then-apart-ne0
 returns-then-apart-ne0 c =
     first_in_word c.args.xs.now c.args.ys.now c.loop-i.i (omega arith)
-    (omega (arith, c.ok.xs c.loop-i.i)) (omega (arith, c.ok.ys c.loop-i.i)) (omega arith) c.loop-i.invariant
+    (omega (arith, c.type_inv.xs c.loop-i.i)) (omega (arith, c.type_inv.ys c.loop-i.i)) (omega arith) c.loop-i.invariant
 
 -- no word has one
 pub returns : goal.returns
