@@ -13,7 +13,7 @@ represent-requires c =
         bounded = c.requires.bounded;
         each = ap length same ∙ c.requires.led;
         blocks = λ s h. subst (λ (l : List ℕ). get_or l s 0 < n) (sym same) (c.requires.leaders s h);
-        room = c.split_at_mut-sets.ensures.front-len;
+        room = c.split_at_mut-sets.ensures.front_len;
       };
       each = c.requires.skips;
     }

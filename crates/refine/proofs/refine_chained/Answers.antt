@@ -17,8 +17,8 @@ pub chain-requires : goal.chain-requires
 chain-requires c =
     let ws = c.args.words.now in
     let ns = c.split_at_mut-next.result.0.now in
-    let all = c.split_at_mut-next.ensures.front-len in
-    let each = c.split_at_mut-first.ensures.front-len in
+    let all = c.split_at_mut-next.ensures.front_len in
+    let each = c.split_at_mut-first.ensures.front_len in
     record {
       whole = omega (arith, c.requires.askable.whole);
       few = omega (arith, c.requires.askable.short);
@@ -32,11 +32,11 @@ run_rounds-counts-requires c =
     let w = c.row_width-width.result in
     let fs = c.chain.new.first in
     let ns = c.chain.new.next in
-    let states : length fs ≡ n = omega (arith, c.chain.auto.first, c.split_at_mut-first.ensures.front-len) in
-    let count : length ns ≡ length ws / 3 = omega (arith, c.chain.auto.next, c.split_at_mut-next.ensures.front-len) in
+    let states : length fs ≡ n = omega (arith, c.chain.auto.first, c.split_at_mut-first.ensures.front_len) in
+    let count : length ns ≡ length ws / 3 = omega (arith, c.chain.auto.next, c.split_at_mut-next.ensures.front_len) in
     let whole : length ws ≡ 3 * length ns = omega (arith, c.requires.askable.whole) in
-    let led : length c.fill.new.words ≡ n = omega (arith, c.fill.auto.words, c.split_at_mut-leads.ensures.front-len) in
-    let long : length c.fill-2.new.words ≡ n * w = omega (arith, c.fill-2.auto.words, c.split_at_mut-rows.ensures.front-len) in
+    let led : length c.fill.new.words ≡ n = omega (arith, c.fill.auto.words, c.split_at_mut-leads.ensures.front_len) in
+    let long : length c.fill-2.new.words ≡ n * w = omega (arith, c.fill-2.auto.words, c.split_at_mut-rows.ensures.front_len) in
     record {
       fixed = record {
         chained = c.chain.ensures;
@@ -46,11 +46,11 @@ run_rounds-counts-requires c =
         wide = subst (λ m. min m (length ns + 1) ≤ 32 * w) (sym states) (subst (λ g. min n (g + 1) ≤ 32 * w) (sym count) c.row_width-width.ensures.wide);
         narrow = omega (arith, c.row_width-width.ensures.narrow, c.requires.askable.few);
       };
-      each = omega (arith, led, c.split_at_mut-old.ensures.front-len);
-      skips = omega (arith, count, c.split_at_mut-skips.ensures.front-len);
+      each = omega (arith, led, c.split_at_mut-old.ensures.front_len);
+      skips = omega (arith, count, c.split_at_mut-skips.ensures.front_len);
       start = start_after (machine_of (length fs) ws) w c.split_at_mut-births.result.0.now c.fill-2.new.words c.fill.new.words (subst (λ m. length c.fill-2.new.words ≡ m * w) (sym states) long) (led ∙ sym states) c.fill-2.ensures c.fill.ensures;
-      births = omega (arith, c.split_at_mut-births.ensures.front-len);
-      scratch = omega (arith, states, c.split_at_mut-scratch.ensures.front-len);
+      births = omega (arith, c.split_at_mut-births.ensures.front_len);
+      scratch = omega (arith, states, c.split_at_mut-scratch.ensures.front_len);
     }
 
 pub returns : goal.returns
@@ -60,9 +60,9 @@ returns c =
     let w = c.row_width-width.result in
     let k = c.run_rounds-counts.result in
     let bw = c.run_rounds-counts.new.births in
-    let states : length c.chain.new.first ≡ n = omega (arith, c.chain.auto.first, c.split_at_mut-first.ensures.front-len) in
+    let states : length c.chain.new.first ≡ n = omega (arith, c.chain.auto.first, c.split_at_mut-first.ensures.front_len) in
     let ns = c.chain.new.next in
-    let whole : length ws ≡ 3 * length ns = omega (arith, c.chain.auto.next, c.split_at_mut-next.ensures.front-len, c.requires.askable.whole) in
+    let whole : length ws ≡ 3 * length ns = omega (arith, c.chain.auto.next, c.split_at_mut-next.ensures.front_len, c.requires.askable.whole) in
     let done = subst (λ m. Done (machine_of m ws) k.rounds w bw k.formulas c.run_rounds-counts.new.rows c.run_rounds-counts.new.leads) states c.run_rounds-counts.ensures in
     record {
       machine = (refl, refl);
@@ -73,6 +73,6 @@ returns c =
         each = states;
         done = done;
         narrow = omega (arith, c.row_width-width.ensures.narrow, c.requires.askable.few);
-        room = omega (arith, done.link.room, ap length done.born, length_births bw k.formulas, c.run_rounds-counts.auto.births, c.split_at_mut-births.ensures.front-len);
+        room = omega (arith, done.link.room, ap length done.born, length_births bw k.formulas, c.run_rounds-counts.auto.births, c.split_at_mut-births.ensures.front_len);
       };
     }

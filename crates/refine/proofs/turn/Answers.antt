@@ -5,7 +5,7 @@ use Rattle.refine.proofs.turn.Goals as goal
 
 pub next_birth-requires : goal.next_birth-requires
 next_birth-requires c = record {
-  ready = ready c.args.system.words.now c.args.system.first.now c.args.system.next.now c.args.w c.args.round.number c.args.round.old.now c.args.s c.args.births.now c.args.count c.args.rows.now c.args.leads.now c.requires.fixed c.requires.begun c.requires.state c.requires.link c.requires.turning c.args.round.skips.now c.split_at_mut-sets.result.0.now c.requires.represented c.split_at_mut-sets.ensures.front-len;
+  ready = ready c.args.system.words.now c.args.system.first.now c.args.system.next.now c.args.w c.args.round.number c.args.round.old.now c.args.s c.args.births.now c.args.count c.args.rows.now c.args.leads.now c.requires.fixed c.requires.begun c.requires.state c.requires.link c.requires.turning c.args.round.skips.now c.split_at_mut-sets.result.0.now c.requires.represented c.split_at_mut-sets.ensures.front_len;
   few = omega (arith, c.requires.fixed.few);
   one = lead_below c.args.system.words.now c.args.system.first.now c.args.system.next.now c.args.w c.args.round.number c.args.round.old.now c.args.s c.args.births.now c.args.count c.args.rows.now c.args.leads.now c.requires.fixed c.requires.begun c.requires.state c.requires.link c.requires.turning;
   other = c.requires.state;

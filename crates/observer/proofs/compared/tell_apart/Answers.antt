@@ -22,7 +22,7 @@ tell-requires c =
     record {
       refined = c.requires.refined;
       needs = c.mark-count.ensures;
-      mask = omega (arith, c.split_at_mut-mask.ensures.front-len);
+      mask = omega (arith, c.split_at_mut-mask.ensures.front_len);
       places = omega (arith, few, ap length done.born, done.link.room, c.requires.refined.narrow, c.requires.scratch, c.split_at_mut-needed.ensures.back_len, c.split_at_mut-negated.ensures.back_len, c.split_at_mut-mask.ensures.back_len);
       room = c.if-lines-count.false;
     }
