@@ -14,7 +14,7 @@ loop-i-init c =
     (subst (λ w. Demanded (demand_one c.args.j c.args.negate) w c.mark_one.new.needed c.mark_one.new.negated) c.requires.needed c.mark_one.ensures)
 
 -- formula i - 1 has passed its demands on
-again : (c : goal.After-slice-known-in-loop-i-3·1) → Marking c.args.refined (wanted_in c.args.refined c.args.j c.args.negate) (c.loop-i.i - 1) c.pass_on-lines.new.needed c.pass_on-lines.new.negated (c.loop-i.lines + c.pass_on-lines.result)
+again : (c : goal.After-slice_known-in-loop-i-3-1) → Marking c.args.refined (wanted_in c.args.refined c.args.j c.args.negate) (c.loop-i.i - 1) c.pass_on-lines.new.needed c.pass_on-lines.new.negated (c.loop-i.lines + c.pass_on-lines.result)
 again c = goes_on c.args.refined c.requires.refined c.args.j c.args.negate c.loop-i.i c.loop-i-test.true (omega (arith, c.loop-i.auto.i)) c.loop-i.needed c.loop-i.negated c.pass_on-lines.new.needed c.pass_on-lines.new.negated c.loop-i.lines c.pass_on-lines.result c.loop-i.invariant c.pass_on-lines.ensures
 
 pub overflow_add-lines : goal.overflow_add-lines
