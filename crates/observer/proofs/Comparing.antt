@@ -16,7 +16,10 @@ use Rattle.lines.specs.Marked.{wanted_in, Marked}
 use Rattle.lines.specs.Written.{Written}
 use Rattle.lines.proofs.OneFormula.{some_line}
 use Rattle.lines.proofs.Passing.{bit_back, within}
-use Rattle.observer.specs.Compared.{most_lines, DifferBy, StandFirst}
+use Rattle.lts.specs.Question.{Question, Encodes}
+use Rattle.observer.specs.declared.comparison.Compared.{Compared}
+use Rattle.observer.specs.declared.comparison.Compared.TheVariants.{Same, Differ, OutFull, NoMachine, Few}
+use Rattle.observer.specs.Compared.{most_lines, DifferBy, StandFirst, ApartSays, ComparedSays}
 
 module _ (r : Refined) (h : RefinesChained r) (s t : ℕ) (hs : s < r.states) (ht : t < r.states) (j : ℕ) (w : Tells r s t j) where
   abbrev m : Machine
@@ -61,3 +64,11 @@ module _ (r : Refined) (h : RefinesChained r) (s t : ℕ) (hs : s < r.states) (h
     stand_first n lines lines' e k =
         let there = subst (λ (d : Demands). Written lines (tell m d (births m)).lines lines') same_demands k in
         subst (λ i. StandFirst m s t i lines lines') (sym e) (record { told = there.words; rest = there.rest })
+
+-- what is said of the two states of a question is said of its words
+pub compared_says : (words lines lines' : List ℕ) (q : Question) (r : Compared) → Encodes words q → ApartSays q.machine q.first q.second lines lines' r → ComparedSays words lines lines' r
+compared_says words lines lines' q Same e h = record { question = q; encoded = e; says = h }
+compared_says words lines lines' q (Differ d n) e h = record { question = q; encoded = e; says = h }
+compared_says words lines lines' q (OutFull d n) e h = record { question = q; encoded = e; says = h }
+compared_says words lines lines' q NoMachine e h = absurd h
+compared_says words lines lines' q Few e h = absurd h
