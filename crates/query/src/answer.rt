@@ -36,7 +36,7 @@ fn told(lines: &[u32], count: usize) -> &[u32]
 
 // Each word with a blank before it.
 fn show_words<W: fmt::Write>(words: &[u32], f: &mut fmt::Formatter<W>) -> fmt::Result
-    ensures { WritesOnOk write_str_gives f.old result (after_blanks words.now) f.new }
+    ensures { WritesOnOk W.write_str_gives f.old result (after_blanks words.now) f.new }
 {
     for word in words {
         write!(f, " {word}")?;

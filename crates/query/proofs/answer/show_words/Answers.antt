@@ -8,7 +8,7 @@ use Rattle.query.proofs.answer.show_words.Goals as goal
 pub loop-word-preserved : goal.loop-word-preserved
 loop-word-preserved g c = λ p. let so_far = c.loop-word.invariant p in
     has_written_of_eq g.W.Write.write_str_gives _ _ _ _ (sym (after_blanks_more c.args.words.now c.loop-word.word-index c.loop-word-test.true))
-    (has_written_append g.W.Write.write_str_gives _ _ _ _ _ so_far (c.in_ok-write.ensures.shows so_far.plain refl))
+    (has_written_append g.W.Write.write_str_gives _ _ _ _ _ so_far (c.in_ok-write.ensures.writes so_far.plain refl))
 
 pub returns : goal.returns
 returns g c = λ p ok. has_written_of_eq g.W.Write.write_str_gives _ _ _ _ (ap after_blanks (take_all c.loop-word.word-index c.args.words.now (omega (arith, c.loop-word-test.false)))) (c.loop-word.invariant p)

@@ -9,7 +9,7 @@ pub returns-then-not-gives_room : goal.returns-then-not-gives_room
 returns-then-not-gives_room c =
     let rest = c.loop-rest.rest.now in
     let some : 0 < length rest = search rules in
-    let other : Other c.as_str-option.result.now = same_none _ (codes "--help") (λ e. false≢true (c.if-eq.ensures.1 e)) in
+    let other : Other c.as_str-option.result.now = sym c.if-eq.ensures in
     stop_unknown string_bytes rest c.option-item.result c.loop-rest.options c.as_str-option.result.now some c.option-item.is c.as_str-option.ensures.value other
     (sym c.if-not-gives_room.ensures)
     ∙ c.loop-rest.invariant
@@ -19,7 +19,7 @@ returns-in_default-values c =
     let rest = c.loop-rest.rest.now in
     let some : 0 < length rest = search rules in
     let none : length (later rest) < 1 = search rules in
-    let other : Other c.as_str-option.result.now = same_none _ (codes "--help") (λ e. false≢true (c.if-eq.ensures.1 e)) in
+    let other : Other c.as_str-option.result.now = sym c.if-eq.ensures in
     stop_nothing string_bytes rest c.option-item.result c.loop-rest.options c.as_str-option.result.now some c.option-item.is c.as_str-option.ensures.value other
     none (sym c.if-not-gives_room.ensures)
     ∙ c.loop-rest.invariant
@@ -29,7 +29,7 @@ returns-in_default-number c =
     let rest = c.loop-rest.rest.now in
     let some : 0 < length rest = search rules in
     let more : 0 < length (later rest) = search rules in
-    let other : Other c.as_str-option.result.now = same_none _ (codes "--help") (λ e. false≢true (c.if-eq.ensures.1 e)) in
+    let other : Other c.as_str-option.result.now = sym c.if-eq.ensures in
     let again : c.as_str-in_default-number.result.now ≡ c.as_str.result.now = c.as_str-in_default-number.ensures.value ∙ sym c.as_str.ensures.value in
     stop_number string_bytes rest c.option-item.result c.loop-rest.options c.as_str-option.result.now some c.option-item.is c.as_str-option.ensures.value other
     c.value-item.result c.as_str-in_default-number.result.now more c.value-item.is c.as_str-in_default-number.ensures.value (sym c.if-not-gives_room.ensures)
@@ -41,7 +41,7 @@ loop-rest-preserved c =
     let rest = c.loop-rest.rest.now in
     let some : 0 < length rest = search rules in
     let more : 0 < length (later rest) = search rules in
-    let other : Other c.as_str-option.result.now = same_none _ (codes "--help") (λ e. false≢true (c.if-eq.ensures.1 e)) in
+    let other : Other c.as_str-option.result.now = sym c.if-eq.ensures in
     ap (λ o. chosen o (map string_bytes (later (later rest)))) c.given-options.ensures
     ∙ goes_on string_bytes rest c.option-item.result c.loop-rest.options c.as_str-option.result.now some c.option-item.is c.as_str-option.ensures.value other
     c.value-item.result c.as_str.result.now more c.value-item.is c.as_str.ensures.value (sym c.if-not-gives_room.ensures)
