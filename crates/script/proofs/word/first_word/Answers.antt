@@ -11,4 +11,4 @@ split_at-requires c = subst (IsCharBoundary c.args.text.now) (sym (c.bare_len.en
 pub returns-then-is_empty : goal.returns-then-is_empty
 returns-then-is_empty c =
     named_none c.args.text.now (strip_prefix_char 34 c.args.text.now None c.in_default.ensures.cases (lit< tt))
-    (bare_empty _ _ _ _ c.bare_len.ensures c.as_bytes.ensures.value c.split_at.ensures.front-len c.if-is_empty.ensures)
+    (bare_empty _ _ _ _ c.bare_len.ensures c.as_bytes.ensures.value c.split_at.ensures.front_len c.if-is_empty.ensures)
