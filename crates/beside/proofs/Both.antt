@@ -1,13 +1,13 @@
 -- The words of two drawings encode the question of both.
-use Rattle.std.proofs.Common.{◌≡◌, ℕ, ◌+◌, ◌<◌, ◌≤◌, Bool, true, false, ◌&&◌, T, List, [], ◌∷◌, ◌++◌, map, length, get_or, unwrap_or, sym, refl, ap, ◌∙◌, append_assoc, arith, length-append}
+use Rattle.std.proofs.Common.{◌≡◌, ℕ, ◌+◌, ◌<◌, ◌≤◌, T, List, [], ◌∷◌, ◌++◌, map, length, get_or, unwrap_or, sym, ap, ◌∙◌, append_assoc, arith, length-append}
 use Rattle.std.proofs.lemmas.List.{length-map}
-use Rattle.lts.specs.Question.{Encodes, transition_words, within as inside}
+use Rattle.lts.specs.Question.{Encodes, transition_words}
 use Rattle.lts.proofs.Encoding.{transition_words_append}
 use Rattle.drawing.specs.Arrows.{within}
 use Rattle.drawing.specs.Model.{Plan}
-use Rattle.names.specs.Places.{Name, place, noted_all}
+use Rattle.names.specs.Places.{Name, noted_all}
 use Rattle.names.proofs.Placed.{place_at}
-use Rattle.beside.specs.Asks.{labels, relabelled, both_words, Noting, Ready}
+use Rattle.beside.specs.Asks.{labels, relabelled, both_words, Ready}
 use Rattle.beside.specs.Joined.{buttons_of_both, label_of, moved, joined, OneLabel}
 use Rattle.beside.proofs.Labelled.{labels_at, length_labels}
 use Rattle.drawing.proofs.Fits.{T-lt, T-le, T-join}

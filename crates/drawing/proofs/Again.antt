@@ -1,5 +1,5 @@
 -- What a text draws is drawn again by the text of that drawing.
-use Rattle.std.proofs.Common.{◌≡◌, ℕ, ◌+◌, ◌<◌, ◌≤◌, Bool, true, false, cond, ltb, List, [], ◌∷◌, ◌++◌, map, length, get_or, Some, None, Option, sym, refl, ap, ◌∙◌, subst, append-nil, arith}
+use Rattle.std.proofs.Common.{◌≡◌, ℕ, ◌+◌, ◌≤◌, cond, ltb, List, [], ◌∷◌, ◌++◌, map, length, get_or, Some, None, Option, sym, refl, ap, ◌∙◌, subst, append-nil, arith}
 use Rattle.std.specs.Option.{option_map, option_to_list}
 use Rattle.std.specs.List.{flat_map, AllByRecursion as All}
 use Rattle.std.proofs.lemmas.List.{map-id}
@@ -11,11 +11,11 @@ use Rattle.script.specs.Grammar.{Stated, blank, machine, start, state, arrow, sa
 use Rattle.drawing.specs.declared.plan.Arrow.{Arrow}
 use Rattle.drawing.specs.Facts.{said, title_in, start_in, states_in, buttons_in, arrows_in, spelled, Within, Faithful}
 use Rattle.drawing.specs.Lines.{lines_of}
-use Rattle.drawing.specs.Model.{Draft, Plan, Why, too_many_states, too_many_arrows, too_many_buttons, draws, clear, excess, closed, found, begun, finish, run, drawn}
+use Rattle.drawing.specs.Model.{Draft, Plan, too_many_states, too_many_arrows, too_many_buttons, draws, clear, excess, closed, found, begun, finish, drawn}
 use Rattle.drawing.specs.Written.{statements_of, text_of, RoundTrip}
 use Rattle.drawing.proofs.Believed.{faithful}
 use Rattle.drawing.proofs.Built.{Built, built_none}
-use Rattle.drawing.proofs.Complete.{Whole, complete}
+use Rattle.drawing.proofs.Complete.{complete}
 use Rattle.drawing.proofs.Wording.{joined_append}
 use Rattle.drawing.proofs.Writable.{statements_writable, lines_written, reads_written}
 

@@ -1,9 +1,9 @@
 -- A drawing is faithful to its text.
-use Rattle.std.proofs.Common.{◌≡◌, ℕ, ◌<◌, ◌≤◌, Bool, true, false, cond, ltb, List, [], ◌∷◌, map, length, get_or, Some, None, Ok, Err, Option, Result, sym, refl, ap, ◌∙◌, subst, arith}
+use Rattle.std.proofs.Common.{◌≡◌, ℕ, ◌≤◌, Bool, true, false, cond, ltb, List, [], ◌∷◌, map, length, get_or, Some, None, Ok, Err, Result, sym, refl, ap, ◌∙◌, subst, arith}
 use Rattle.std.specs.Option.{option_map, option_to_list}
-use Rattle.std.specs.List.{flat_map, AllByRecursion as All}
+use Rattle.std.specs.List.{flat_map}
 use Rattle.std.proofs.lemmas.Bool.{ltb-false}
-use Rattle.names.specs.Places.{Name, noted_all, Distinct}
+use Rattle.names.specs.Places.{Distinct}
 use Rattle.names.proofs.Placed.{place_at}
 use Rattle.names.proofs.Turns.{distinct_none, distinct_noted_all}
 use Rattle.script.specs.Grammar.{says, reading}
@@ -13,10 +13,10 @@ use Rattle.drawing.specs.declared.Trouble.TheVariants.{Refused, Memory}
 use Rattle.drawing.specs.Code.{planned, why, Agrees}
 use Rattle.drawing.specs.Lines.{lines_of}
 use Rattle.drawing.specs.Model.{Draft, Plan, Why, too_many_states, too_many_arrows, too_many_buttons, draws, clear, excess, drawn}
-use Rattle.drawing.specs.Facts.{spelled, Within, Faithful, said, states_in, buttons_in, Reliable}
+use Rattle.drawing.specs.Facts.{spelled, Faithful, said, states_in, buttons_in, Reliable}
 use Rattle.drawing.proofs.Built.{Built, built_none}
 use Rattle.drawing.proofs.Refusals.{refusal_line}
-use Rattle.drawing.proofs.Runs.{Ran, run_built, Closed, finish_closed}
+use Rattle.drawing.proofs.Runs.{run_built, Closed, finish_closed}
 
 three : (x y z : Bool) (u v w : Why) → cond x (Some u) (cond y (Some v) (cond z (Some w) None)) ≡ None → (x ≡ false) × (y ≡ false) × (z ≡ false)
 three true y z u v w e = let q : ◌≡◌ {A = ℕ} 0 1 = cc in absurd (omega arith)

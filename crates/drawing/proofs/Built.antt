@@ -1,15 +1,15 @@
 -- A draft is what its statements say.
-use Rattle.std.proofs.Common.{◌≡◌, ℕ, suc, ◌+◌, ◌<◌, ◌≤◌, List, [], ◌∷◌, ◌++◌, map, length, get_or, Some, None, Option, sym, refl, ap, ◌∙◌, subst, append_assoc, append-nil, arith}
+use Rattle.std.proofs.Common.{◌≡◌, ℕ, List, [], ◌∷◌, ◌++◌, map, Some, None, sym, refl, ap, ◌∙◌, append-nil, arith}
 use Rattle.std.specs.Option.{option_map, option_to_list}
 use Rattle.std.specs.List.{flat_map, AllByRecursion as All}
 use Rattle.std.proofs.ByRecursion.{All-push, All-weaker}
 use Rattle.std.proofs.lemmas.List.{flat_map_more, map_push}
-use Rattle.names.specs.Places.{Name, place, noted, noted_all, Distinct}
+use Rattle.names.specs.Places.{Name, noted, noted_all}
 use Rattle.names.proofs.Placed.{place_noted}
 use Rattle.names.proofs.Turns.{noted_all_append, Extends, extends_same, extends_noted, extends_then, noted_place, known}
 use Rattle.script.specs.Grammar.{Stated, blank, machine, start, state, arrow}
 use Rattle.drawing.specs.declared.plan.Arrow.{Arrow}
-use Rattle.drawing.specs.Model.{Draft, Progress, going, stopped, clear, titled, started, with_state, with_arrow, numbered, say}
+use Rattle.drawing.specs.Model.{Draft, clear, with_state, with_arrow, numbered}
 use Rattle.drawing.specs.Facts.{title_in, start_in, states_in, buttons_in, arrows_in, spelled, Within}
 
 pub record Built (ss : List Stated) (k : Draft) : Type 0 where

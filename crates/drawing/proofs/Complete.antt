@@ -1,14 +1,14 @@
 -- Lines that all say something, with one title and one start at most, are run to their end.
-use Rattle.std.proofs.Common.{◌≡◌, ℕ, suc, ◌+◌, ◌<◌, ◌≤◌, List, [], ◌∷◌, ◌++◌, map, length, Some, None, Option, sym, refl, ap, ◌∙◌, subst, append_assoc, append-nil, arith}
+use Rattle.std.proofs.Common.{◌≡◌, ℕ, suc, ◌+◌, ◌≤◌, List, [], ◌∷◌, ◌++◌, map, length, Some, None, Option, sym, refl, ap, ◌∙◌, subst, append_assoc, append-nil, arith}
 use Rattle.std.specs.Option.{option_map, option_to_list}
 use Rattle.std.specs.List.{flat_map}
 use Rattle.std.proofs.lemmas.List.{length-append}
 use Rattle.names.specs.Places.{Name}
-use Rattle.script.specs.Grammar.{Stated, blank, machine, start, state, arrow, Reading, says, fault, reading}
+use Rattle.script.specs.Grammar.{Stated, blank, machine, start, state, arrow, says, reading}
 use Rattle.drawing.specs.Facts.{title_in, start_in}
 use Rattle.drawing.specs.Model.{Draft, Why, Progress, going, stopped, titled, started, say, add, finish, run}
 use Rattle.drawing.proofs.Built.{Built}
-use Rattle.drawing.proofs.Runs.{Grown, say_built, run_end, run_next}
+use Rattle.drawing.proofs.Runs.{say_built, run_end, run_next}
 use Rattle.drawing.proofs.Wording.{joined_append}
 
 -- a second title would be two

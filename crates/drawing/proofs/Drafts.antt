@@ -1,9 +1,9 @@
 -- A step of the draft, as its code sees it.
-use Rattle.std.proofs.Common.{◌≡◌, ℕ, List, [], ◌∷◌, ◌++◌, Some, None, Option, sym, refl, ap, ◌∙◌, subst}
+use Rattle.std.proofs.Common.{◌≡◌, ℕ, List, [], ◌∷◌, ◌++◌, Some, None, Option, sym, refl, ap, ◌∙◌}
 use Rattle.names.specs.Places.{Name, place, noted}
 use Rattle.names.proofs.Placed.{place_noted}
 use Rattle.drawing.specs.declared.plan.Arrow.{Arrow}
-use Rattle.drawing.specs.Model.{Draft, Outcome, refuses, no_start, unknown_start, with_arrow, numbered, finish, found, begun, closed, excess}
+use Rattle.drawing.specs.Model.{Draft, refuses, no_start, with_arrow, finish, found, begun}
 
 pub finish_none : (at : ℕ) (k : Draft) → k.start ≡ None → finish at k ≡ refuses at no_start
 unfolding finish

@@ -1,13 +1,12 @@
 -- The loop over the lines, as its code sees it.
-use Rattle.std.proofs.Common.{◌≡◌, ℕ, suc, ◌+◌, ◌<◌, ◌≤◌, List, [], ◌∷◌, ◌++◌, length, Ok, Err, Result, sym, refl, ap, ◌∙◌, subst, add-one, arith}
+use Rattle.std.proofs.Common.{◌≡◌, ℕ, ◌+◌, ◌<◌, ◌≤◌, List, [], ◌∷◌, ◌++◌, length, Ok, Err, sym, refl, ap, ◌∙◌, subst, add-one, arith}
 use Rattle.std.proofs.lemmas.List.{length-append}
 use Rattle.script.specs.Grammar.{reading}
-use Rattle.drawing.specs.declared.plan.Drawing.{Drawing}
 use Rattle.drawing.specs.declared.Trouble.{Trouble}
 use Rattle.drawing.specs.declared.Trouble.TheVariants.{Refused, Memory}
 use Rattle.drawing.specs.declared.sketch.Sketch.{Sketch}
 use Rattle.drawing.specs.Lines.{lines_of}
-use Rattle.drawing.specs.Model.{Draft, Progress, going, stopped, Outcome, refuses, clear, add, finish, run, drawn}
+use Rattle.drawing.specs.Model.{Draft, Progress, going, stopped, refuses, clear, add, finish, run, drawn}
 use Rattle.drawing.specs.Code.{drafted, Numbered, Follows, Agrees, why}
 use Rattle.drawing.proofs.Numbering.{numbered_add}
 use Rattle.drawing.proofs.Lined.{OneLine, lines_last, lines_cut}

@@ -1,11 +1,11 @@
 -- Every number in a draft stays that of a name.
-use Rattle.std.proofs.Common.{◌≡◌, ℕ, ◌≤◌, List, [], ◌∷◌, ◌++◌, length, Some, None, Option, sym, refl, ap, subst, arith}
-use Rattle.names.specs.Places.{Name, place, noted}
+use Rattle.std.proofs.Common.{◌≡◌, ℕ, ◌≤◌, length, Some, None, Option, subst, arith}
+use Rattle.names.specs.Places.{Name, noted}
 use Rattle.names.proofs.Placed.{place_noted}
 use Rattle.names.proofs.Turns.{extends_noted, noted_place, known}
-use Rattle.script.specs.Grammar.{Stated, blank, machine, start, state, arrow, Reading, says, fault}
+use Rattle.script.specs.Grammar.{blank, machine, start, state, arrow, Reading, says, fault}
 use Rattle.drawing.specs.Code.{Numbered}
-use Rattle.drawing.specs.Model.{Draft, Progress, going, stopped, titled, started, with_state, with_arrow, numbered, say, add}
+use Rattle.drawing.specs.Model.{Draft, Progress, going, stopped, titled, started, with_state, with_arrow, numbered, add}
 use Rattle.drawing.proofs.Fits.{fits_from, within_grown, within_push}
 
 abbrev Kept : Progress → Type 0

@@ -1,9 +1,9 @@
 -- A refusal names a line of the text.
-use Rattle.std.proofs.Common.{◌≡◌, ℕ, suc, ◌+◌, ◌<◌, ◌≤◌, List, [], ◌∷◌, length, IfSome, Some, None, Option, sym, refl, ap, ◌∙◌, subst, arith}
+use Rattle.std.proofs.Common.{◌≡◌, ℕ, suc, ◌+◌, ◌<◌, ◌≤◌, List, [], ◌∷◌, length, IfSome, Some, None, Option, sym, ◌∙◌, arith}
 use Rattle.names.specs.Places.{Name, place}
 use Rattle.script.specs.Grammar.{Stated, blank, machine, start, state, arrow, Reading, says, fault, reading}
 use Rattle.drawing.specs.Lines.{lines_of}
-use Rattle.drawing.specs.Model.{Draft, Plan, Why, no_start, unknown_start, Outcome, draws, refuses, Progress, going, stopped, clear, titled, started, say, add, excess, closed, found, begun, finish, run, drawn}
+use Rattle.drawing.specs.Model.{Draft, Why, no_start, unknown_start, refuses, Progress, going, stopped, clear, titled, started, say, add, excess, closed, found, begun, finish, run, drawn}
 use Rattle.drawing.proofs.Runs.{run_stop, run_end, run_next}
 use Rattle.drawing.proofs.Lined.{lines_some}
 

@@ -1,16 +1,11 @@
 -- A text that draws something: each line says something, and the drawing is faithful.
-use Rattle.std.proofs.Common.{◌≡◌, ℕ, suc, ◌+◌, ◌<◌, ◌≤◌, Bool, true, false, cond, ltb, List, [], ◌∷◌, ◌++◌, map, length, get_or, Some, None, Option, sym, refl, ap, ◌∙◌, subst, append_assoc, append-nil, arith, MatchOption}
-use Rattle.std.specs.Option.{option_map, option_to_list}
-use Rattle.std.specs.List.{flat_map, AllByRecursion as All}
-use Rattle.std.proofs.lemmas.Bool.{ltb-false, le-ltb}
-use Rattle.names.specs.Places.{Name, place, noted, noted_all, Distinct}
-use Rattle.names.proofs.Placed.{place_at}
-use Rattle.names.proofs.Turns.{distinct_none, distinct_noted_all}
+use Rattle.std.proofs.Common.{◌≡◌, ℕ, suc, ◌+◌, List, [], ◌∷◌, ◌++◌, map, length, Some, None, Option, sym, refl, ap, ◌∙◌, subst, append_assoc, append-nil, arith}
+use Rattle.std.specs.List.{flat_map}
+use Rattle.names.specs.Places.{Name, place}
 use Rattle.script.specs.Grammar.{Stated, blank, machine, start, state, arrow, Reading, says, fault, reading}
-use Rattle.drawing.specs.Lines.{lines_of}
-use Rattle.drawing.specs.Model.{Draft, Plan, Why, too_many_states, too_many_arrows, too_many_buttons, Outcome, draws, refuses, Progress, going, stopped, clear, titled, started, say, add, excess, closed, found, begun, finish, run, drawn}
-use Rattle.drawing.specs.Facts.{said_in, said, title_in, start_in, states_in, buttons_in, arrows_in, spelled, Within, Faithful}
-use Rattle.drawing.proofs.Built.{Built, built_none, built_blank, built_machine, built_start, built_state, built_arrow}
+use Rattle.drawing.specs.Model.{Draft, Plan, Why, Outcome, draws, refuses, Progress, going, stopped, titled, started, say, add, excess, closed, found, begun, finish, run}
+use Rattle.drawing.specs.Facts.{said_in}
+use Rattle.drawing.proofs.Built.{Built, built_blank, built_machine, built_start, built_state, built_arrow}
 
 -- the draft after a step
 pub record Grown (ss : List Stated) (s : Stated) (p : Progress) : Type 0 where

@@ -1,19 +1,19 @@
 -- What a text says can be written.
-use Rattle.std.proofs.Common.{◌≡◌, ℕ, zero, suc, ◌<◌, Bool, true, false, cond, not, ◌&&◌, T, eqb, List, [], ◌∷◌, ◌++◌, map, length, get_or, sym, refl, ap, ◌∙◌, subst, append_assoc, arith}
+use Rattle.std.proofs.Common.{◌≡◌, ℕ, zero, suc, Bool, true, false, cond, not, ◌&&◌, T, eqb, List, [], ◌∷◌, ◌++◌, map, sym, refl, ap, ◌∙◌, subst, append_assoc, arith}
 use Rattle.std.specs.List.{flat_map, AllByRecursion as All}
 use Rattle.std.specs.Option.{option_to_list}
 use Rattle.std.proofs.ByRecursion.{All-append, All-push, All-map}
 use Rattle.std.proofs.lemmas.Bool.{both_ways, eq-eqb, not-true}
 use Rattle.names.specs.Places.{Name, noted, noted_all}
 use Rattle.names.proofs.Turns.{noted_either}
-use Rattle.script.specs.Grammar.{Stated, blank, machine, start, state, arrow, Reading, says, reading}
+use Rattle.script.specs.Grammar.{Stated, blank, machine, start, state, arrow, says, reading}
 use Rattle.script.specs.Printed.{lacks, writable, writable_all, printed}
 use Rattle.script.proofs.Lacks.{holds_is, and_0, and_1, and_in}
 use Rattle.script.proofs.Oneline.{printed_one_line}
 use Rattle.script.proofs.Readable.{reading_writable}
 use Rattle.script.proofs.Roundtrip.{reading_printed}
 use Rattle.drawing.specs.Lines.{lines_of, before}
-use Rattle.drawing.specs.Facts.{said, title_in, start_in, states_in, buttons_in, arrows_in, spelled, Faithful}
+use Rattle.drawing.specs.Facts.{said, title_in, start_in, states_in, arrows_in, spelled, Faithful}
 use Rattle.drawing.specs.Model.{Plan}
 use Rattle.drawing.specs.Written.{line_of, statements_of}
 use Rattle.drawing.proofs.Lined.{OneLine, lines_cut}

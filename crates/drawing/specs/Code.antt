@@ -1,12 +1,10 @@
 -- What the code's values stand for.
-use Rattle.std.specs.Prelude.{◌≡◌, ℕ, ◌<◌, T, List, [], length, Some, None, Ok, Err, vec_items, string_bytes, Option, Result}
+use Rattle.std.specs.Prelude.{◌≡◌, ℕ, ◌<◌, T, length, Ok, Err, vec_items, string_bytes, Result}
 use Rattle.std.specs.Option.{option_map}
 use Rattle.names.specs.Numbered.{names}
-use Rattle.drawing.specs.declared.plan.Arrow.{Arrow}
 use Rattle.drawing.specs.declared.plan.Drawing.{Drawing}
 use Rattle.drawing.specs.declared.Reason.{Reason}
 use Rattle.drawing.specs.declared.Reason.TheVariants.{Unexpected, SecondMachine, SecondStart, NoStart, UnknownStart, TooManyStates, TooManyArrows, TooManyButtons}
-use Rattle.drawing.specs.declared.Refusal.{Refusal}
 use Rattle.drawing.specs.declared.Trouble.{Trouble}
 use Rattle.drawing.specs.declared.Trouble.TheVariants.{Refused, Memory}
 use Rattle.drawing.specs.declared.sketch.Sketch.{Sketch}

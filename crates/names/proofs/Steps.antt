@@ -1,20 +1,18 @@
 -- What a step of Names does, as its code sees it.
 use Rattle.std.proofs.Common.{◌≡◌, ℕ, ◌<◌, Bool, true, false, cond, ltb, List, [], ◌∷◌, ◌++◌, map, length, get_or, Some, None, vec_items, string_bytes, Option, Vec, String, sym, refl, ap, ◌∙◌, subst, arith}
 use Rattle.std.specs.BTreeMap.{BTreeMap}
-use Rattle.std.specs.BTreeMap.{IsOrdered, keys, values, get_by_text, UpdatesText}
+use Rattle.std.specs.BTreeMap.{IsEmpty, Updates, get_by_text, is_at}
 use Rattle.std.specs.Map.{lookup}
 use Rattle.std.specs.Str.{bytes_eq as same_text}
 use Rattle.std.specs.Cmp.Lexicographic.{bytes_decides}
-use Rattle.std.specs.Map.Invariant.{IsValidBTreeMap}
 use Rattle.std.specs.List.{slice_get}
-use Rattle.std.proofs.SortedKeys.{sorted_none}
-use Rattle.std.proofs.lemmas.Map.Invariant.{valid-from-btree-map}
+use Rattle.std.proofs.lemmas.Map.Text.{btree_map_updates_text, text_cmp}
 use Rattle.std.proofs.lemmas.List.{get_or-map, length-map}
 use Rattle.std.proofs.lemmas.Option.{slice_get-get_or, slice_get_past}
-use Rattle.std.proofs.lemmas.Bool.{ltb-true, ltb-false}
-use Rattle.names.specs.Places.{Name, place, added, noted, Distinct}
+use Rattle.std.proofs.lemmas.Bool.{ltb-true, ltb-false, both_ways, false_from_ne_true}
+use Rattle.names.specs.Places.{Name, place, Distinct}
 use Rattle.names.specs.Table.{texts, coded, Apart, Agrees}
-use Rattle.names.proofs.Placed.{or_else, place_own, place_push, place_new, distinct_push, noted_there, noted_new}
+use Rattle.names.proofs.Placed.{or_else, place_own, place_push, place_new, distinct_push}
 use Rattle.std.specs.String.{string_cmp}
 
 coded_same : (o p : Option ℕ) → coded o ≡ coded p → o ≡ p
@@ -29,21 +27,21 @@ module _ {Y V : Type 0} (list : Vec (String Y) V) where
 
 module _ {Y V : Type 0} (list : Vec (String Y) V) (numbers : BTreeMap (String Y) ℕ) where
   -- what a table owes
-  abbrev pub Kept : Type 0
-  Kept = Apart list × (IsValidBTreeMap string_cmp numbers × (Agrees list numbers × Unit {0}))
+  pub record Kept : Type 0 where
+    pub apart : Apart list
+    pub agrees : Agrees list numbers
 
   pub agrees_from : Agrees list numbers → (n : Name) → get_by_text numbers n ≡ place (texts list) n
   agrees_from h n = coded_same (get_by_text numbers n) (place (texts list) n) (h n)
 
-  kept : Distinct (texts list) → IsOrdered string_cmp numbers → ((n : Name) → get_by_text numbers n ≡ place (texts list) n) → Kept
-  kept d o a = (λ i h. ap coded (place_own (texts list) i d h), (valid-from-btree-map string_cmp numbers o, (λ n. ap coded (a n), tt)))
+  kept : Distinct (texts list) → ((n : Name) → get_by_text numbers n ≡ place (texts list) n) → Kept
+  kept d a = record { apart = λ i h. ap coded (place_own (texts list) i d h); agrees = λ n. ap coded (a n) }
 
-  pub none_yet : vec_items list ≡ [] → keys numbers ≡ [] → values numbers ≡ [] → Kept
+  pub none_yet : vec_items list ≡ [] → IsEmpty numbers → Kept
   unfolding place
-  none_yet ls ks vs =
+  none_yet ls es =
       kept (λ i j h. absurd (omega (arith, subst (λ l. i < length (map string_bytes l)) ls h)))
-      (ap length vs ∙ sym (ap length ks), sorted_none _ ks string_cmp)
-      (λ n. ap (λ l. lookup same_text (map string_bytes l) (values numbers) n) ks ∙ ap (λ l. place (map string_bytes l) n) (sym ls))
+      (λ n. ap (λ l. lookup (is_at (text_cmp n)) l) es ∙ ap (λ l. place (map string_bytes l) n) (sym ls))
 
 module _ {Z : Type 0} where
   pub named_at : (xs ys : List (String Z)) (i : ℕ) (s : String Z) → ys ≡ xs → true ≡ ltb i (length ys) → s ≡ get_or ys i s → Some (string_bytes s) ≡ slice_get (map string_bytes xs) i
@@ -58,19 +56,23 @@ module _ {Z : Type 0} where
       let m = ap length e in
       sym (slice_get_past (map string_bytes xs) i (omega (arith, length-map xs string_bytes)))
 
-agree_at : (xs : List Name) (n q : Name) (b : Bool) → same_text q n ≡ b → place xs n ≡ None → cond b (Some (length xs)) (place xs q) ≡ or_else (place xs q) (cond b (Some (length xs)) None)
-agree_at xs n q true t e = ap (λ o. or_else o (Some (length xs))) (sym (ap (place xs) ((bytes_decides q n).0 t) ∙ e))
-agree_at xs n q false t e = by (place xs q)
+agree_at : (xs : List Name) (n q : Name) (b : Bool) → same_text n q ≡ b → place xs n ≡ None → cond b (Some (length xs)) (place xs q) ≡ place (xs ++ (n ∷ [])) q
+agree_at xs n q true t e = subst (λ m. Some (length xs) ≡ place (xs ++ (n ∷ [])) m) ((bytes_decides n q).0 t) (sym (place_new xs n e))
+agree_at xs n q false t e = by (place xs q) ∙ sym (place_push xs n q ∙ ap (λ c. or_else (place xs q) (cond c (Some (length xs)) None)) other)
   where
+    other : same_text q n ≡ false
+    other = false_from_ne_true (same_text q n) (λ s. both_ways (same_text n q) t ((bytes_decides n q).1 (sym ((bytes_decides q n).0 s))))
+
     by : (o : Option ℕ) → o ≡ or_else o None
     by None = refl
     by (Some i) = refl
 
 -- a new name goes at the end
-pub grown : {Y V : Type 0} (list more : Vec (String Y) V) (numbers new : BTreeMap (String Y) ℕ) (n : Name) → Apart list → Agrees list numbers → place (texts list) n ≡ None → texts more ≡ texts list ++ (n ∷ []) → UpdatesText numbers new n (Some (length (texts list))) → Kept more new
-grown list more numbers new n apart old e ls sets =
-    kept more new (subst Distinct (sym ls) (distinct_push (texts list) n (distinct_from list apart) e)) sets.0
+pub grown : {Y V : Type 0} (list more : Vec (String Y) V) (numbers new : BTreeMap (String Y) ℕ) (key : String Y) → Apart list → Agrees list numbers → place (texts list) (string_bytes key) ≡ None → texts more ≡ texts list ++ (string_bytes key ∷ []) → Updates string_cmp numbers new key (Some (length (texts list))) → Kept more new
+grown list more numbers new key apart old e ls sets =
+    let n = string_bytes key in
+    kept more new (subst Distinct (sym ls) (distinct_push (texts list) n (distinct_from list apart) e))
     (λ q.
-    sets.1 q ∙ ap (λ o. cond (same_text q n) (Some (length (texts list))) o) (agrees_from list numbers old q)
-    ∙ agree_at (texts list) n q (same_text q n) refl e
-    ∙ sym (place_push (texts list) n q) ∙ ap (λ l. place l q) (sym ls))
+    btree_map_updates_text n numbers new (Some (length (texts list))) sets q
+    ∙ ap (λ o. cond (same_text n q) (Some (length (texts list))) o) (agrees_from list numbers old q)
+    ∙ agree_at (texts list) n q (same_text n q) refl e ∙ ap (λ l. place l q) (sym ls))

@@ -1,9 +1,9 @@
 -- Lemmas on names that are noted in turn.
-use Rattle.std.proofs.Common.{◌≡◌, ℕ, ◌+◌, ◌<◌, ◌≤◌, List, [], ◌∷◌, ◌++◌, length, get_or, Some, None, Option, unwrap_or, sym, refl, ap, ◌∙◌, subst, append_assoc, arith}
+use Rattle.std.proofs.Common.{◌≡◌, ℕ, ◌<◌, ◌≤◌, List, [], ◌∷◌, ◌++◌, length, get_or, Some, None, Option, unwrap_or, sym, refl, ap, ◌∙◌, subst, append_assoc, arith}
 use Rattle.std.specs.List.{AllByRecursion as All}
 use Rattle.std.proofs.lemmas.List.{length_push, length-append, get_or_append_left, get_or_at, append-nil}
 use Rattle.names.specs.Places.{Name, place, noted, noted_all, Distinct}
-use Rattle.names.proofs.Placed.{place_at, place_none, place_kept, place_new, place_noted, distinct_push, noted_there, noted_new}
+use Rattle.names.proofs.Placed.{place_at, place_new, distinct_push, noted_there, noted_new}
 
 pub noted_all_append : (xs ns ms : List Name) → noted_all xs (ns ++ ms) ≡ noted_all (noted_all xs ns) ms
 noted_all_append xs [] ms = refl

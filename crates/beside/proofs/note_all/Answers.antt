@@ -1,4 +1,4 @@
-use Rattle.std.proofs.Common.{◌≡◌, ℕ, ◌+◌, ◌<◌, List, [], ◌∷◌, ◌++◌, map, length, take, vec_items, string_bytes, sym, refl, ap, ◌∙◌, subst, arith}
+use Rattle.std.proofs.Common.{◌≡◌, ℕ, ◌+◌, List, [], ◌∷◌, ◌++◌, map, take, vec_items, string_bytes, sym, refl, ap, ◌∙◌, subst, arith}
 use Rattle.std.proofs.lemmas.List.{map_more, take_all}
 use Rattle.names.specs.Numbered.{names}
 use Rattle.names.specs.Places.{Name}
@@ -7,7 +7,7 @@ use Rattle.beside.proofs.Labelled.{noting_more}
 use Rattle.beside.proofs.note_all.Goals as goal
 
 pub loop-button-init : goal.loop-button-init
-loop-button-init c = record { table = refl; given = c.new_labels.ensures.items }
+loop-button-init c = record { table = refl; given = c.new-labels.ensures.items }
 
 pub loop-button-preserved : goal.loop-button-preserved
 loop-button-preserved c =

@@ -1,4 +1,4 @@
-use Rattle.std.proofs.Common.{◌≡◌, ◌++◌, map, take, vec_items, ap, ◌∙◌, arith}
+use Rattle.std.proofs.Common.{◌++◌, map, vec_items, ap, ◌∙◌, arith}
 use Rattle.std.proofs.lemmas.List.{take_all}
 use Rattle.lts.specs.Question.{transition_words}
 use Rattle.beside.specs.Asks.{relabelled}

@@ -1,4 +1,4 @@
-use Rattle.std.proofs.Common.{◌≡◌, ◌+◌, ◌≤◌, [], map, length, vec_items, sym, ap, ◌∙◌, subst, arith}
+use Rattle.std.proofs.Common.{◌≡◌, ◌+◌, ◌≤◌, [], length, vec_items, sym, ap, ◌∙◌, subst, arith}
 use Rattle.lts.specs.Question.{Encodes}
 use Rattle.names.specs.Numbered.{names}
 use Rattle.names.specs.Places.{noted_all}

@@ -1,7 +1,6 @@
-use Rattle.std.proofs.Common.{◌≡◌, ℕ, ◌+◌, ◌<◌, List, [], ◌∷◌, ◌++◌, map, length, get_or, vec_items, sym, ap, ◌∙◌, subst, arith}
+use Rattle.std.proofs.Common.{◌≡◌, ℕ, ◌+◌, ◌<◌, [], ◌∷◌, ◌++◌, map, length, get_or, vec_items, sym, ap, ◌∙◌, subst, arith}
 use Rattle.lts.specs.Question.{transition_words}
 use Rattle.names.specs.Numbered.{names}
-use Rattle.drawing.specs.declared.plan.Arrow.{Arrow}
 use Rattle.beside.specs.Asks.{Movable, no_arrow, relabelled}
 use Rattle.beside.proofs.Moves.{movable_all, pieces}
 use Rattle.beside.proofs.words_of.Goals as goal

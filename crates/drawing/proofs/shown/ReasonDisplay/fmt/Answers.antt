@@ -1,4 +1,3 @@
-use Rattle.std.proofs.Common.{rules}
 use Rattle.drawing.proofs.shown.ReasonDisplay.fmt.Goals as goal
 
 pub returns-in-SecondMachine-clause-writes : goal.returns-in-SecondMachine-clause-writes

@@ -1,7 +1,5 @@
 use Rattle.std.proofs.Common.{◌≡◌, [], ◌∷◌, ◌++◌, map, length, Some, None, vec_items, string_bytes, sym, ap, ◌∙◌, subst}
-use Rattle.std.specs.BTreeMap.{UpdatesText}
-use Rattle.std.proofs.StringKeys.BTreeMap as text
-use Rattle.std.proofs.lemmas.Map.Invariant.{btree-map-from-valid}
+use Rattle.std.specs.BTreeMap.{Updates}
 use Rattle.std.proofs.lemmas.List.{map_push}
 use Rattle.std.proofs.lemmas.Result.{IfOk-at_ok}
 use Rattle.names.specs.Places.{place}
@@ -32,15 +30,13 @@ longer c =
     ap (map string_bytes) (c.push_reserved.ensures.items ∙ ap (λ l. l ++ (c.in_ok-copy.copy ∷ [])) c.reserve.ensures.items)
     ∙ map_push string_bytes (vec_items v) c.in_ok-copy.copy ∙ ap (λ s. texts v ++ (s ∷ [])) copy
 
-pub invariant-of-self-2 : goal.invariant-of-self-2
-invariant-of-self-2 c =
+pub invariant_of-self-2 : goal.invariant_of-self-2
+invariant_of-self-2 c =
     let v = c.args.self.now in
-    let new = c.insert.new.self in
     let key = IfOk-at_ok (λ s. string_bytes s ≡ c.args.name.now) c.in_ok-key.was c.from_str.ensures.ok in
-    let put = rw c.in_ok-insert.was at c.insert.ensures.inserted in
-    let sets = text.put v.numbers new c.in_ok-key.key _ put.3 (btree-map-from-valid string_cmp v.numbers v.lawful) in
-    grown v.list c.push_reserved.new.self v.numbers new c.args.name.now v.apart v.agrees (absent c) (longer c)
-    (subst (λ i. UpdatesText v.numbers new c.args.name.now (Some i)) (count c) (subst (λ bs. UpdatesText v.numbers new bs (Some c.len-i.result)) key sets))
+    let put = subst (λ i. Updates string_cmp v.numbers c.insert.new.self c.in_ok-key.key (Some i)) (count c) c.in_ok-insert.ensures.updates in
+    let k = grown v.list c.push_reserved.new.self v.numbers c.insert.new.self c.in_ok-key.key v.apart v.agrees (ap (place (texts v.list)) key ∙ absent c) (longer c ∙ ap (λ n. texts v.list ++ (n ∷ [])) (sym key)) put in
+    record { apart = k.apart; agrees = k.agrees }
 
 pub returns : goal.returns
 returns c =
