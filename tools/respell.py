@@ -24,7 +24,7 @@ def spelled(name):
     if name in APART:
         return APART[name]
     for t in TYPES:
-        if name.startswith(t) and name != "All-born" and name != "All-listed":
+        if name.startswith(t) and name not in ("All-born", "All-listed", "All-together-at-first"):
             return t + name[len(t):].replace("-", "_")
     if name[0].isupper():
         parts = name.split("-")

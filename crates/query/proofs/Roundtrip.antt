@@ -1,7 +1,7 @@
 -- What is printed is read again.
 use Rattle.std.proofs.Common.{◌≡◌, ℕ, suc, ◌^◌, ◌<◌, true, false, cond, ◌&&◌, List, [], ◌∷◌, ◌++◌, map, length, Some, None, decimal, sym, refl, ap, ◌∙◌, append-nil, arith}
 use Rattle.std.specs.Char.{is_ascii_digit}
-use Rattle.std.specs.List.{AllByRecursion as All}
+use Rattle.std.specs.List.{AllByRecursion}
 use Rattle.std.specs.Str.{all_ascii_digits}
 use Rattle.std.proofs.lemmas.Fmt.{digits_decimal, digits_value-decimal, decimal_nonempty}
 use Rattle.std.proofs.lemmas.Bool.{and_parts, cond-true, cond-false}
@@ -34,7 +34,7 @@ pieces_digits w bs ws h l e =
     ap (λ (r : List ℕ × List (List ℕ)). put r.0 r.1) (cut_digits w bs h ∙ ap (λ (r : List ℕ × List (List ℕ)). (w ++ r.0, r.1)) e)
     ∙ ap (λ x. put x ws) (append-nil w) ∙ put_some w ws l
 
-cut_blanks : (ns : List ℕ) → All (λ n. n < 2 ^ 32) ns → cut (after_blanks ns) ≡ ([], map decimal ns)
+cut_blanks : (ns : List ℕ) → AllByRecursion (λ n. n < 2 ^ 32) ns → cut (after_blanks ns) ≡ ([], map decimal ns)
 cut_blanks [] h = refl
 cut_blanks (n ∷ ns) h = ap (λ ws. ([], ws)) (pieces_digits (decimal n) (after_blanks ns) (map decimal ns) (digits_decimal own n (small n h.0)) (decimal_nonempty n (small n h.0)) (cut_blanks ns h.1))
 
@@ -44,7 +44,7 @@ number_decimal n h =
     cond-true (numeral (decimal n)) (Some (value_after 0 (decimal n))) None (fine_in (decimal n) (digits_decimal own n (small n h), decimal_nonempty n (small n h), (let l : value_after 0 (decimal n) < 2 ^ 32 = omega (arith, v, h) in l)))
     ∙ ap Some v
 
-read_decimals : (k : ℕ) (ns : List ℕ) → All (λ n. n < 2 ^ 32) ns → read_from k (map decimal ns) ≡ numbers ns
+read_decimals : (k : ℕ) (ns : List ℕ) → AllByRecursion (λ n. n < 2 ^ 32) ns → read_from k (map decimal ns) ≡ numbers ns
 read_decimals k [] h = refl
 read_decimals k (n ∷ ns) h =
     ap (λ o. going_on o (no_number (decimal n) k) (read_from (suc k) (map decimal ns))) (number_decimal n h.0)

@@ -5,7 +5,7 @@ use Rattle.observer.specs.Compared.{ComparedPost}
 use Rattle.observer.specs.declared.comparison.Compared.{Compared}
 use Rattle.observer.specs.declared.comparison.Compared.TheVariants.{NoMachine}
 use Rattle.query.specs.declared.plan.Lending.{Lending}
-use Rattle.query.specs.declared.plan.Lending.TheVariants.{All, ByRule}
+use Rattle.query.specs.declared.plan.Lending.TheVariants.{Whole, ByRule}
 
 -- words that encode a question are at most 49,156
 abbrev pub AtMostWords : Type 0
@@ -18,5 +18,5 @@ pub record AsksByRule (words : List ℕ) (work : ℕ) (lines lines' : List ℕ) 
 
 -- the answer, where all of `work` is lent or by the rule
 abbrev pub Asks : Lending → List ℕ → ℕ → List ℕ → List ℕ → Compared → Type 0
-Asks All words work lines lines' r = ComparedPost words work lines lines' r
+Asks Whole words work lines lines' r = ComparedPost words work lines lines' r
 Asks ByRule words work lines lines' r = AsksByRule words work lines lines' r

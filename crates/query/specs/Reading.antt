@@ -1,6 +1,6 @@
 -- The numbers that a line of text holds, as a function of its bytes.
 use Rattle.std.specs.Prelude.{◌≡◌, ℕ, suc, ◌+◌, ◌-◌, ◌*◌, ◌^◌, ◌<◌, Bool, cond, not, ◌&&◌, ◌||◌, List, [], ◌∷◌, ◌++◌, length, Some, None, decimal, Option, ◌==◌, nat_lt}
-use Rattle.std.specs.List.{AllByRecursion as All}
+use Rattle.std.specs.List.{AllByRecursion}
 use Rattle.std.specs.Str.{all_ascii_digits}
 use Rattle.query.specs.Answers.{after_blanks}
 
@@ -74,4 +74,4 @@ spaced (n ∷ ns) = decimal n ++ after_blanks ns
 
 -- numbers below 2^32, printed so, are read again as themselves
 abbrev pub ReadsBack : Type 0
-ReadsBack = (ns : List ℕ) → All (λ n. n < 2 ^ 32) ns → reading (spaced ns) ≡ numbers ns
+ReadsBack = (ns : List ℕ) → AllByRecursion (λ n. n < 2 ^ 32) ns → reading (spaced ns) ≡ numbers ns

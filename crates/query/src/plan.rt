@@ -26,17 +26,17 @@ pub enum Fault<'a> {
 // How much is lent for a question: all that there is, or as much as the rule asks for.
 #[derive(Clone, Copy)]
 pub enum Lending {
-    All,
+    Whole,
     ByRule,
 }
 
 impl Options {
     // All that is given is lent; where none is given, what the rule asks for.
     pub fn lending(&self) -> Lending
-        ensures { result ≡ (if is_some self.now.work then Lending.All else Lending.ByRule) }
+        ensures { result ≡ (if is_some self.now.work then Lending.Whole else Lending.ByRule) }
     {
         match self.work {
-            Some(_) => Lending::All,
+            Some(_) => Lending::Whole,
             None => Lending::ByRule,
         }
     }

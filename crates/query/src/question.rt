@@ -28,7 +28,7 @@ pub fn ask(words: &[u32], lines: &mut [u32], work: &mut [u32], lending: Lending)
     ensures most { AtMostWords }
 {
     match lending {
-        Lending::All => compare(words, lines, work),
+        Lending::Whole => compare(words, lines, work),
         Lending::ByRule => ask_by_rule(words, lines, work),
     }
 }

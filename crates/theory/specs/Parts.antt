@@ -33,8 +33,8 @@ BisimilarSatisfyTheSame = (m : Machine) (s t : ℕ) (f : Formula) → Bisimilar 
 -- Rounds
 
 -- before any round all are together
-abbrev pub All-together_at_first : Type 0
-All-together_at_first = (m : Machine) (s t : ℕ) → T (together m 0 s t)
+abbrev pub AllTogetherAtFirst : Type 0
+AllTogetherAtFirst = (m : Machine) (s t : ℕ) → T (together m 0 s t)
 
 -- a round leaves those together whose transitions lead, label by label, to what was together
 abbrev pub TogetherAfterARound : Type 0
@@ -164,7 +164,7 @@ pub record Parts : Type 0 where
   pub bisimilar_is_transitive : BisimilarIsTransitive
   pub bisimilar_is_reflexive : BisimilarIsReflexive
   pub bisimilar_satisfy_the_same : BisimilarSatisfyTheSame
-  pub all_together_at_first : All-together_at_first
+  pub all_together_at_first : AllTogetherAtFirst
   pub together_after_a_round : TogetherAfterARound
   pub together_is_an_equivalence : TogetherIsAnEquivalence
   pub together_shrinks : TogetherShrinks
