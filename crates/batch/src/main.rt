@@ -6,6 +6,7 @@ use query::{
 };
 use std::alloc::AllocError;
 use std::io::{BufRead, BufReader, BufWriter, ErrorKind, Write};
+use std::process::ExitCode;
 use std::{env, io};
 
 #[cfg(test)]
@@ -131,20 +132,30 @@ fn report(rt: &HostRuntime, stop: Stop) -> Result<(), Stop> {
     Err(Stop::Said)
 }
 
-fn main(rt: HostRuntime) -> Result<(), Stop> {
-    let args: Vec<String> = env::args(&rt)?.skip(1).collect(rt.alloc())?;
+// Does what the arguments ask for.
+fn run(rt: &HostRuntime) -> Result<(), Stop> {
+    let args: Vec<String> = env::args(rt)?.skip(1).collect(rt.alloc())?;
     match parse_options(args.as_slice()) {
         Ok(Command::Help) => {
             rt.print(HELP)?;
             Ok(())
         }
-        Ok(Command::Answer(options)) => match answer_all(&rt, options) {
+        Ok(Command::Answer(options)) => match answer_all(rt, options) {
             Ok(()) => Ok(()),
-            Err(stop) => report(&rt, stop),
+            Err(stop) => report(rt, stop),
         },
         Err(fault) => {
             eprintln!(rt; "batch: {fault}")?;
             Err(Stop::Said)
         }
+    }
+}
+
+// Status 1 where something is wrong; what has been said is not said again.
+fn main(rt: HostRuntime) -> Result<ExitCode, Stop> {
+    match run(&rt) {
+        Ok(()) => Ok(ExitCode::SUCCESS),
+        Err(Stop::Said) => Ok(ExitCode::FAILURE),
+        Err(stop) => Err(stop),
     }
 }
