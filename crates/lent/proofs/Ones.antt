@@ -1,8 +1,7 @@
 -- Counting bits, and uniting them.
-use Rattle.std.proofs.Common.{◌≡◌, ℕ, zero, suc, ◌+◌, ◌-◌, ◌*◌, ◌/◌, ◌%◌, ◌^◌, ◌<◌, ◌≤◌, min, max, List, length, get_or, sym, refl, ap, ◌∙◌, subst, ap₂, inl, inr, add-zero, add-suc, pow-suc, arith}
+use Rattle.std.proofs.Common.{◌≡◌, ℕ, zero, suc, ◌+◌, ◌-◌, ◌*◌, ◌/◌, ◌%◌, ◌^◌, ◌<◌, ◌≤◌, min, max, List, length, get_or, sym, refl, ap, ◌∙◌, inl, inr, add-zero, add-suc, pow-suc, arith}
 use lib.Bits.{bit_and, bit_or, bit_xor}
 use lib.Count.{ones, ones_in, ones_step}
-use Rattle.std.proofs.lemmas.List.{get_or_past}
 use Rattle.std.proofs.lemmas.Bool.{cases_lt}
 use Rattle.lent.specs.Bits.{bit, bit_at, bits_set}
 use Rattle.lent.proofs.Bits.{bit_first, bit_next, bit-bit_and, bit-bit_or, bit-bit_xor, bit_at_word, bit_at_past}

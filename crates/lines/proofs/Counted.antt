@@ -1,8 +1,8 @@
 -- Down the list, formula by formula: what is demanded so far, and how many lines that takes.
-use Rattle.std.proofs.Common.{◌≡◌, ℕ, zero, suc, ◌+◌, ◌-◌, ◌*◌, ◌<◌, ◌≤◌, Bool, true, false, cond, List, [], ◌∷◌, length, sym, refl, ap, ◌∙◌, subst, ap₂, mul-le-mul, arith}
+use Rattle.std.proofs.Common.{◌≡◌, ℕ, suc, ◌+◌, ◌-◌, ◌<◌, ◌≤◌, Bool, true, false, cond, List, [], ◌∷◌, length, sym, refl, ap, ◌∙◌, subst, ap₂, mul-le-mul, arith}
 use Rattle.lts.specs.Machine.{Machine}
 use Rattle.theory.specs.Blocks.{count}
-use Rattle.theory.specs.Births.{Birth, births, Extends}
+use Rattle.theory.specs.Births.{Birth, births}
 use Rattle.theory.specs.Told.{Demands, passed_on, demands, demand_one, lines_for, tell}
 use Rattle.theory.proofs.Bounds.{births_below_states}
 use Rattle.theory.proofs.Growth.{rounds_settled}
@@ -14,7 +14,7 @@ use Rattle.refine.specs.declared.Refined.{Refined}
 use Rattle.refine.specs.Refined.{RefinesChained, machine_in}
 use Rattle.refine.proofs.Telling.{closed_in}
 use Rattle.lines.specs.Terms.{has_term}
-use Rattle.lines.specs.Marked.{Demanded, Passed, Passes, wanted_in, lines_up_to, Marking, Marked}
+use Rattle.lines.specs.Marked.{Demanded, Passes, wanted_in, Marking, Marked}
 use Rattle.lines.proofs.Known.{in_births}
 
 -- one birth more, opened

@@ -1,15 +1,14 @@
 -- What is known of formula j of a machine that was refined.
-use Rattle.std.proofs.Common.{◌≡◌, ℕ, zero, suc, ◌<◌, cond, not, T, ◌⊎◌, List, [], ◌∷◌, length, sym, refl, ap, ◌∙◌, subst, inl, inr, arith}
+use Rattle.std.proofs.Common.{◌≡◌, ℕ, zero, suc, ◌<◌, cond, not, T, ◌⊎◌, List, ◌∷◌, length, sym, ap, ◌∙◌, subst, inl, inr, arith}
 use Rattle.lts.specs.Machine.{Machine, Step}
 use Rattle.theory.specs.Together.{Closed}
-use Rattle.theory.specs.Births.{Birth, Born, alike, formulas, births, Extends, begun, grown}
+use Rattle.theory.specs.Births.{Birth, Born, alike, births, Extends, begun, grown}
 use Rattle.theory.proofs.Bools.{not_T_of}
 use Rattle.theory.proofs.Counting.{below_suc}
 use Rattle.theory.proofs.Growth.{rounds_settled}
 use Rattle.theory.proofs.Joining.{extends_rest}
 use Rattle.theory.proofs.Sizes.{born_in, wanted_older}
 use Rattle.theory.proofs.Terms.{extends_within}
-use Rattle.lent.specs.Bits.{bit_at}
 use Rattle.chains.specs.System.{source_at, label_at, target_at}
 use Rattle.formulas.specs.Link.{birth_at, births_of}
 use Rattle.formulas.specs.Marks.{Terms, Differing}
@@ -18,7 +17,7 @@ use Rattle.formulas.proofs.Transitions.{place_among}
 use Rattle.refine.specs.declared.Refined.{Refined}
 use Rattle.refine.specs.Refined.{RefinesChained, machine_in}
 use Rattle.refine.proofs.Telling.{closed_in}
-use Rattle.lines.specs.Terms.{has_term, TermsAre}
+use Rattle.lines.specs.Terms.{TermsAre}
 
 -- an array's births began as those up to birth j
 pub births_begin : (bw : List ℕ) (count j : ℕ) → j < count → Extends (births_of bw count) (birth_at bw j ∷ births_of bw j)

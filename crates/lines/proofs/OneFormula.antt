@@ -1,16 +1,14 @@
 -- One formula is told, or passed over.
-use Rattle.std.proofs.Common.{◌≡◌, ℕ, zero, suc, ◌+◌, ◌*◌, ◌^◌, ◌<◌, ◌≤◌, Bool, true, false, cond, not, ◌&&◌, T, eqb, ◌⊎◌, List, [], ◌∷◌, ◌++◌, length, get_or, set, sym, refl, ap, ◌∙◌, subst, ap₂, inl, inr, append_assoc, arith, length-append, get_or-set_other, get_or-set_same}
+use Rattle.std.proofs.Common.{◌≡◌, ℕ, suc, ◌+◌, ◌^◌, ◌<◌, ◌≤◌, Bool, true, false, cond, T, eqb, List, [], ◌∷◌, ◌++◌, length, get_or, set, sym, refl, ap, ◌∙◌, subst, ap₂, inl, inr, arith, length-append, get_or-set_other, get_or-set_same}
 use Rattle.lts.specs.Machine.{Machine}
-use Rattle.lts.specs.Formula.{top, neg, satisfies}
 use Rattle.lts.specs.Line.{Line, top_line, neg_line, dia_line}
 use Rattle.theory.specs.Births.{Birth, formulas, births, Extends, begun, grown}
 use Rattle.theory.specs.Rows.{answer}
-use Rattle.theory.specs.Told.{Demands, demand_one, demands, Joined, joined, Text, term_line, terms_told, with_negation, formula_told, tell, all_said}
+use Rattle.theory.specs.Told.{Demands, demand_one, Joined, joined, Text, term_line, terms_told, with_negation, formula_told, tell, all_said}
 use Rattle.theory.proofs.Bools.{T-is, is_T}
 use Rattle.theory.proofs.Counting.{below_suc}
 use Rattle.theory.proofs.Demanded.{demanded}
-use Rattle.theory.proofs.Joining.{extends_rest, from_oldest_extends}
-use Rattle.theory.proofs.Least.{formulas_length}
+use Rattle.theory.proofs.Joining.{extends_rest}
 use Rattle.theory.proofs.Lines.{Stands, stands, formula_at}
 use Rattle.theory.proofs.Saying.{nth_below}
 use Rattle.theory.proofs.Sizes.{tell_grows}
@@ -30,7 +28,7 @@ use Rattle.lines.proofs.Counted.{tell_none, tell_fits}
 use Rattle.lines.proofs.Known.{in_births, reach_below}
 use Rattle.lines.proofs.Writing.{written_more}
 use Rattle.lines.proofs.Passing.{bit_back, within, answers_same}
-use Rattle.std.proofs.lemmas.Bool.{eq-eqb, ne_eqb, cases_eq}
+use Rattle.std.proofs.lemmas.Bool.{eq-eqb, ne_eqb}
 
 tell_next : (m : Machine) (d : Demands) (b : Birth) (bs : List Birth) (c : Bool) → d.need (length bs) ≡ c → tell m d (b ∷ bs) ≡ cond c (formula_told m d b bs (tell m d bs)) (tell m d bs)
 unfolding tell

@@ -1,18 +1,17 @@
 -- A formula passes its demands on: what that does to the bits, and how many lines it takes.
-use Rattle.std.proofs.Common.{◌≡◌, ℕ, zero, suc, ◌+◌, ◌-◌, ◌*◌, ◌<◌, ◌≤◌, min, max, Bool, true, false, cond, not, ◌&&◌, ◌||◌, T, eqb, List, [], ◌∷◌, length, sym, refl, ap, ◌∙◌, subst, ap₂, true≢false, add-zero, add-suc, arith}
+use Rattle.std.proofs.Common.{◌≡◌, ℕ, zero, suc, ◌+◌, ◌-◌, ◌*◌, ◌<◌, ◌≤◌, min, max, Bool, true, false, cond, not, ◌&&◌, ◌||◌, T, eqb, List, length, sym, refl, ap, ◌∙◌, subst, ap₂, add-zero, add-suc, arith}
 use Rattle.lts.specs.Machine.{Machine}
 use Rattle.lts.specs.Formula.{top, neg, satisfies}
 use Rattle.theory.specs.Blocks.{count}
 use Rattle.theory.specs.Births.{Birth, formulas, births}
 use Rattle.theory.specs.Rows.{answer}
 use Rattle.theory.specs.Told.{Demands, demand, passed_on, lines_for}
-use Rattle.theory.proofs.Bools.{T-is, not_is}
 use Rattle.theory.proofs.Demanded.{term_below}
 use Rattle.theory.proofs.Joining.{extends_rest, from_oldest_extends}
 use Rattle.theory.proofs.Least.{formulas_length}
 use Rattle.lent.specs.Bits.{bit_at, bits_set}
 use Rattle.formulas.specs.Link.{birth_at, births_of, row_of}
-use Rattle.formulas.proofs.Linking.{births_length, not_bit}
+use Rattle.formulas.proofs.Linking.{births_length}
 use Rattle.refine.specs.declared.Refined.{Refined}
 use Rattle.refine.specs.Refined.{RefinesChained, machine_in}
 use Rattle.lines.specs.Terms.{older, has_term, TermsAre}

@@ -1,5 +1,5 @@
 -- Lines as they stand in words.
-use Rattle.std.specs.Prelude.{◌≡◌, ℕ, ◌+◌, ◌*◌, ◌≤◌, List, ◌++◌, length, take, drop}
+use Rattle.std.specs.Prelude.{◌≡◌, ℕ, ◌+◌, ◌*◌, List, ◌++◌, length, take, drop}
 use Rattle.lts.specs.Line as lts
 use Rattle.lines.specs.declared.line.Says.{Says}
 use Rattle.lines.specs.declared.line.Says.TheVariants.{Top, Not, Both, Can}

@@ -1,5 +1,5 @@
 -- The museum's two machines: what tells them apart, and that nothing nearer does.
-use Rattle.std.proofs.Common.{◌≡◌, ℕ, suc, ◌≤◌, max, Bool, true, false, not, ◌&&◌, ◌||◌, eqb, refl, ap, arith}
+use Rattle.std.proofs.Common.{◌≡◌, ℕ, ◌≤◌, Bool, true, false, not, ◌&&◌, ◌||◌, eqb, refl, ap, arith}
 use Rattle.lts.specs.Machine.{Machine}
 use Rattle.lts.specs.Formula.{Formula, top, neg, and, dia, satisfies, depth}
 use Rattle.lts.specs.Museum.{chocolate, ToldApart}

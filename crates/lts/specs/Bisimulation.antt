@@ -1,5 +1,5 @@
 -- When two states do the same: whatever step the one takes, the other can answer, and again so.
-use Rattle.std.specs.Prelude.{ℕ, Bool, true, false, ◌&&◌, ◌||◌, T, List, [], ◌∷◌, ◌==◌}
+use Rattle.std.specs.Prelude.{ℕ, Bool, false, ◌&&◌, ◌||◌, T, List, [], ◌∷◌, ◌==◌}
 use Rattle.lts.specs.Machine.{Machine, Step}
 
 -- a relation that keeps up both ways: each step of either side is answered by one with the same label, into the relation again

@@ -1,6 +1,6 @@
 -- Machines: states numbered from 0, and transitions between them by labels. No limit on either.
 -- A transition is the code's own struct: numbers `source`, `label` and `target`.
-use Rattle.std.specs.Prelude.{ℕ, List, [], ◌∷◌}
+use Rattle.std.specs.Prelude.{ℕ, List, ◌∷◌}
 use Rattle.lts.specs.declared.Transition.{Transition}
 
 -- its states are the numbers below `states`; one state may have several transitions by one label

@@ -1,10 +1,9 @@
 -- The museum's chocolate machine: the old one lets one choose after the coin, the new one has chosen by then.
 use Rattle.std.specs.Prelude.{◌≡◌, ℕ, ◌<◌, true, false, List, [], ◌∷◌}
 use Rattle.std.proofs.Math.Option.{some, none}
-use Rattle.lts.specs.declared.Transition.{Transition}
 use Rattle.lts.specs.Machine.{Machine}
 use Rattle.lts.specs.Question.{Question}
-use Rattle.lts.specs.Formula.{Formula, top, neg, and, dia, satisfies, depth}
+use Rattle.lts.specs.Formula.{Formula, top, and, dia, satisfies, depth}
 use Rattle.lts.specs.Line.{Line, top_line, neg_line, and_line, dia_line, said}
 
 -- 0 by 1 to 1, from which 2 and 3 go to 7; 4 by 1 to 5 or 6, with 2 from the one and 3 from the other to 7

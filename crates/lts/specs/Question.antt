@@ -1,5 +1,5 @@
 -- Questions, the words that encode them, and the one place where limits stand.
-use Rattle.std.specs.Prelude.{◌≡◌, ℕ, Bool, true, false, ◌&&◌, T, List, [], ◌∷◌, ◌++◌, length, nat_le, nat_lt}
+use Rattle.std.specs.Prelude.{◌≡◌, ℕ, Bool, true, ◌&&◌, T, List, [], ◌∷◌, ◌++◌, length, nat_le, nat_lt}
 use Rattle.lts.specs.declared.Transition.{Transition}
 use Rattle.lts.specs.Machine.{Machine}
 

@@ -1,6 +1,6 @@
 -- A question that was read can be refined.
-use Rattle.std.proofs.Common.{◌≡◌, ℕ, ◌+◌, ◌*◌, ◌/◌, ◌<◌, ◌≤◌, ◌&&◌, T, ltb, leb, List, [], ◌∷◌, ◌++◌, length, sym, ap, ◌∙◌, arith, leb→le, length-append}
-use Rattle.lts.specs.Question.{Question, Encodes, valid, within, transition_words}
+use Rattle.std.proofs.Common.{◌≡◌, ℕ, ◌+◌, ◌*◌, ◌&&◌, ltb, leb, List, [], ◌∷◌, length, sym, ap, ◌∙◌, arith, leb→le, length-append}
+use Rattle.lts.specs.Question.{Question, within, transition_words}
 use Rattle.lts.proofs.Encoding.{length_words}
 use Rattle.theory.proofs.Bools.{and_0, and_1}
 use Rattle.refine.specs.Refined.{Askable}

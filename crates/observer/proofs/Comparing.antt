@@ -1,11 +1,11 @@
 -- What is told of two states that a formula tells apart.
-use Rattle.std.proofs.Common.{◌≡◌, ℕ, ◌*◌, ◌<◌, ◌≤◌, Bool, cond, not, eqb, List, length, get_or, sym, refl, ap, ◌∙◌, subst, arith}
+use Rattle.std.proofs.Common.{◌≡◌, ℕ, ◌<◌, ◌≤◌, Bool, not, eqb, List, length, sym, ap, ◌∙◌, subst}
 use Rattle.lts.specs.Formula.{depth}
 use Rattle.lts.specs.Machine.{Machine}
 use Rattle.theory.specs.Together.{Closed}
 use Rattle.theory.specs.Births.{formulas, births}
-use Rattle.theory.specs.Rows.{answer, first, first_formula, TellsLeast}
-use Rattle.theory.specs.Told.{Demands, demand_one, demands, Text, tell, asked, told_of}
+use Rattle.theory.specs.Rows.{answer, first_formula, TellsLeast}
+use Rattle.theory.specs.Told.{Demands, demand_one, demands, tell, asked, told_of}
 use Rattle.theory.proofs.Told.{told_lines_say, few_lines}
 use Rattle.lent.specs.Bits.{bit_at}
 use Rattle.formulas.specs.Link.{birth_at, row_of}

@@ -7,7 +7,7 @@ use Rattle.lts.specs.Line.{Line, lines_words, said}
 use Rattle.lts.specs.Machine.{Machine}
 use Rattle.lts.specs.Question.{Question, Encodes, OneQuestion}
 use Rattle.theory.specs.Parts.{Parts}
-use Rattle.theory.specs.Told.{told_of, told}
+use Rattle.theory.specs.Told.{told_of}
 use Rattle.observer.specs.declared.comparison.Compared.{Compared}
 use Rattle.observer.specs.declared.comparison.Compared.TheVariants.{Same, Differ, OutFull, NoMachine, Few}
 

@@ -1,13 +1,13 @@
 -- Arguments, one after the other.
-use Rattle.std.proofs.Common.{◌≡◌, ℕ, ◌-◌, ◌<◌, Bool, true, false, cond, List, [], ◌∷◌, map, length, get_or, take, drop, Some, None, codes, Option, sym, refl, ap, ◌∙◌, arith}
+use Rattle.std.proofs.Common.{◌≡◌, ℕ, ◌-◌, ◌<◌, true, false, List, [], ◌∷◌, map, length, get_or, take, drop, Some, None, codes, Option, sym, refl, ap, ◌∙◌, arith}
 use Rattle.std.specs.Str.{bytes_eq}
 use Rattle.std.proofs.lemmas.Slice.Eq.{bytes_eq-Decides}
 use Rattle.std.proofs.lemmas.List.{take_rest}
 use Rattle.std.proofs.lemmas.Bool.{false≢true, cond-true, cond-false}
 use Rattle.std.proofs.lemmas.Bool.Decides.{same_from_decides}
-use Rattle.query.specs.declared.plan.Command.TheVariants.{Answer, Help}
+use Rattle.query.specs.declared.plan.Command.TheVariants.{Answer}
 use Rattle.query.specs.declared.plan.Options.{Options}
-use Rattle.query.specs.Chosen.{Chosen, asks, unknown, no_number, nothing, is_room, with_room, going, chosen}
+use Rattle.query.specs.Chosen.{asks, unknown, no_number, nothing, is_room, with_room, going, chosen}
 use Rattle.query.specs.Reading.{number_of}
 
 pub same_none : (xs ys : List ℕ) → (xs ≡ ys → ⊥) → bytes_eq xs ys ≡ false

@@ -1,5 +1,5 @@
 -- What is printed is read again.
-use Rattle.std.proofs.Common.{◌≡◌, ℕ, suc, ◌^◌, ◌<◌, true, false, cond, ◌&&◌, List, [], ◌∷◌, ◌++◌, map, length, Some, None, decimal, sym, refl, ap, ◌∙◌, append-nil, arith}
+use Rattle.std.proofs.Common.{◌≡◌, ℕ, suc, ◌^◌, ◌<◌, true, false, List, [], ◌∷◌, ◌++◌, map, length, Some, None, decimal, refl, ap, ◌∙◌, append-nil, arith}
 use Rattle.std.specs.Char.{is_ascii_digit}
 use Rattle.std.specs.List.{AllByRecursion}
 use Rattle.std.specs.Str.{all_ascii_digits}
@@ -7,7 +7,7 @@ use Rattle.std.proofs.lemmas.Fmt.{digits_decimal, digits_value-decimal, decimal_
 use Rattle.std.proofs.lemmas.Bool.{and_parts, cond-true, cond-false}
 use Rattle.std.proofs.lemmas.Bool.Decides.{nat_tests}
 use Rattle.query.specs.Answers.{after_blanks}
-use Rattle.query.specs.Reading.{blank, put, cut, pieces, value_after, numeral, number_of, numbers, no_number, going_on, read_from, reading, spaced, ReadsBack}
+use Rattle.query.specs.Reading.{blank, put, cut, pieces, value_after, numeral, number_of, numbers, no_number, going_on, read_from, reading, ReadsBack}
 use Rattle.query.proofs.Numbers.{own, fine_in}
 
 digit_plain : (c : ℕ) → is_ascii_digit c ≡ true → blank c ≡ false

@@ -1,9 +1,9 @@
 -- How many words a question has.
-use Rattle.std.proofs.Common.{◌≡◌, ℕ, ◌+◌, ◌*◌, ◌≤◌, Bool, true, false, ◌&&◌, T, ltb, leb, List, [], ◌∷◌, ◌++◌, length, sym, refl, ap, ◌∙◌, arith}
+use Rattle.std.proofs.Common.{◌≡◌, ◌*◌, ◌≤◌, Bool, true, false, ◌&&◌, T, ltb, leb, List, [], ◌∷◌, length, refl, ap, arith}
 use Rattle.std.proofs.lemmas.List.{length-append}
 use Rattle.std.proofs.lemmas.Bool.{and_parts, leb-true}
 use Rattle.lts.specs.declared.Transition.{Transition}
-use Rattle.lts.specs.Question.{Question, Encodes, valid, within, transition_words, question_words}
+use Rattle.lts.specs.Question.{Question, valid, within, transition_words}
 use Rattle.query.specs.Asking.{AtMostWords}
 
 holds_is : (b : Bool) → T b → b ≡ true

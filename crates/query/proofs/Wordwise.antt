@@ -1,5 +1,5 @@
 -- A line is read word by word.
-use Rattle.std.proofs.Common.{◌≡◌, ℕ, suc, ◌+◌, List, [], ◌∷◌, ◌++◌, length, take, drop, Some, None, Option, sym, refl, ap, ◌∙◌, subst, append-nil, arith}
+use Rattle.std.proofs.Common.{◌≡◌, ℕ, suc, ◌+◌, List, [], ◌∷◌, ◌++◌, length, take, drop, Some, None, Option, sym, refl, ap, ◌∙◌, append-nil, arith}
 use Rattle.std.proofs.lemmas.List.{append_assoc, length-append}
 use Rattle.query.specs.Reading.{Reading, numbers, no_number, skip, run, pieces, number_of, onto, going_on, read_from, reading}
 use Rattle.query.proofs.Cuts.{skip_again, pieces_skip, pieces_next}

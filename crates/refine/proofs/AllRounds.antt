@@ -1,8 +1,8 @@
 -- Rounds until one adds nothing, as their loop sees them.
-use Rattle.std.proofs.Common.{◌≡◌, ℕ, zero, suc, ◌+◌, ◌-◌, ◌<◌, ◌≤◌, ◌⊎◌, List, [], ◌∷◌, length, get_or, sym, refl, ap, ◌∙◌, subst, inl, inr, add-one, arith}
+use Rattle.std.proofs.Common.{◌≡◌, ℕ, zero, suc, ◌+◌, ◌-◌, ◌<◌, ◌≤◌, ◌⊎◌, List, length, get_or, sym, refl, ap, ◌∙◌, subst, inl, inr, add-one, arith}
 use Rattle.lts.specs.Machine.{Machine}
 use Rattle.theory.specs.Together.{Closed}
-use Rattle.theory.specs.Births.{Birth, alike, sweep, rounds, births}
+use Rattle.theory.specs.Births.{Birth, alike, rounds, births}
 use Rattle.theory.specs.Blocks.{leader}
 use Rattle.theory.proofs.Counting.{below_suc}
 use Rattle.theory.proofs.Growth.{rounds_extend}

@@ -1,12 +1,10 @@
 -- Blocks may be tested by any test that is the same on states.
-use Rattle.std.proofs.Common.{◌≡◌, ℕ, ◌<◌, Bool, true, false, cond, not, ◌&&◌, ◌||◌, T, eqb, List, [], ◌∷◌, refl, ap, ◌∙◌, eqb→eq}
-use mathlib.Core.Option.{Option, some, none}
+use Rattle.std.proofs.Common.{◌≡◌, ℕ, ◌<◌, Bool, true, false, not, ◌&&◌, T, eqb, List, [], ◌∷◌, refl, ap, eqb→eq}
 use Rattle.lts.specs.declared.Transition.{Transition}
-use Rattle.lts.specs.Machine.{Machine, Step, Among, later}
+use Rattle.lts.specs.Machine.{Machine, Among, later}
 use Rattle.lts.specs.Formula.{any_step}
-use Rattle.lts.specs.Line.{given}
 use Rattle.theory.specs.Together.{Closed}
-use Rattle.theory.specs.Births.{Birth, birth, first_failing, unmatched, next_birth}
+use Rattle.theory.specs.Births.{first_failing, unmatched, next_birth}
 use Rattle.theory.proofs.Steps.{step, head_step}
 
 both_same : (p q x y : Bool) → (T p → T q → x ≡ y) → p && (q && x) ≡ p && (q && y)

@@ -1,5 +1,5 @@
 -- What the loops need of the machine, of the blocks with which a round began, and of the room.
-use Rattle.std.proofs.Common.{◌≡◌, ℕ, zero, suc, ◌-◌, ◌*◌, ◌<◌, ◌≤◌, List, [], length, get_or, sym, refl, ap, ◌∙◌, subst, arith}
+use Rattle.std.proofs.Common.{◌≡◌, ℕ, zero, suc, ◌-◌, ◌*◌, ◌<◌, ◌≤◌, List, length, get_or, sym, refl, ap, ◌∙◌, subst, arith}
 use Rattle.lts.specs.declared.Transition.{Transition}
 use Rattle.lts.specs.Machine.{Machine, Step, Among}
 use Rattle.lts.specs.Decoding.{transitions_of}

@@ -1,5 +1,5 @@
 -- One turn of settling a state: what its calls require, and what they give.
-use Rattle.std.proofs.Common.{◌≡◌, ℕ, suc, ◌+◌, ◌*◌, ◌<◌, not, T, List, [], ◌∷◌, length, get_or, sym, ap, ◌∙◌, subst, add-one, arith}
+use Rattle.std.proofs.Common.{◌≡◌, ℕ, suc, ◌+◌, ◌*◌, ◌<◌, not, T, List, ◌∷◌, length, get_or, sym, ap, ◌∙◌, subst, add-one, arith}
 use mathlib.Core.Option.{Option, some, none}
 use Rattle.lts.specs.Machine.{Machine, Step}
 use Rattle.theory.specs.Together.{Closed}

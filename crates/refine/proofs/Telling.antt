@@ -1,13 +1,13 @@
 -- The first formula that tells two states apart, from the first bit in which their rows differ.
-use Rattle.std.proofs.Common.{◌≡◌, ℕ, zero, suc, ◌+◌, ◌*◌, ◌/◌, ◌<◌, ◌≤◌, Bool, true, false, not, T, ◌⊎◌, List, [], ◌∷◌, length, get_or, replicate, sym, refl, ap, ◌∙◌, subst, inl, inr, arith}
+use Rattle.std.proofs.Common.{◌≡◌, ℕ, zero, suc, ◌+◌, ◌*◌, ◌/◌, ◌<◌, ◌≤◌, not, T, ◌⊎◌, List, length, replicate, sym, ap, ◌∙◌, subst, inl, inr, arith}
 use lib.ListN.{length-replicate}
 use Rattle.lts.specs.Bisimulation.{Bisimilar}
 use Rattle.lts.specs.Machine.{Machine}
 use Rattle.theory.specs.Together.{Closed}
 use Rattle.theory.specs.Births.{Birth, formulas, alike, births}
-use Rattle.theory.specs.Rows.{from_oldest, answer, first, first_formula, TellsLeast}
+use Rattle.theory.specs.Rows.{from_oldest, first, first_formula, TellsLeast}
 use Rattle.theory.proofs.Answers.{same_answer, answer-same, from-oldest-new, from-oldest-old}
-use Rattle.theory.proofs.Bools.{T-or_not, not_both}
+use Rattle.theory.proofs.Bools.{T-or_not}
 use Rattle.theory.proofs.Growth.{rounds_settled}
 use Rattle.theory.proofs.Least.{formulas_length, first_born_tells}
 use Rattle.theory.proofs.Counting.{below_suc}

@@ -1,13 +1,13 @@
 -- Settling a state in a round, and rounds until one adds nothing, as the loops see them.
-use Rattle.std.proofs.Common.{◌≡◌, ℕ, suc, ◌<◌, ◌≤◌, List, [], ◌∷◌, length, sym, refl, ap, ◌∙◌, subst, inl, arith}
-use mathlib.Core.Option.{Option, some, none}
+use Rattle.std.proofs.Common.{◌≡◌, ℕ, suc, ◌<◌, List, ◌∷◌, length, sym, ◌∙◌, subst, arith}
+use mathlib.Core.Option.{some, none}
 use Rattle.lts.specs.Machine.{Machine}
 use Rattle.theory.specs.Together.{Closed}
 use Rattle.theory.specs.Blocks.{leader}
-use Rattle.theory.specs.Births.{Birth, alike, next_birth, settle, sweep, round, rounds, births, Extends}
+use Rattle.theory.specs.Births.{Birth, alike, next_birth, sweep, rounds, births}
 use Rattle.refine.specs.Rounds.{Turning}
-use Rattle.theory.proofs.Growth.{Settled, sweep_settles, rounds_settled}
-use Rattle.theory.proofs.Ending.{settle_none, rounds_next, no_longer_still, still_births}
+use Rattle.theory.proofs.Growth.{Settled, sweep_settles}
+use Rattle.theory.proofs.Ending.{settle_none, no_longer_still, still_births}
 use Rattle.theory.proofs.Settling.{Added, added, settle_step, sweep_next}
 
 module _ (m : Machine) (closed : Closed m) (k : ℕ) (old : List Birth) (o : Settled m k m.states old) (s : ℕ) (hs : s < m.states) where

@@ -1,6 +1,6 @@
 -- The code's births are the theory's.
 use Rattle.std.proofs.Math.Option as theory
-use Rattle.std.specs.Prelude.{ℕ, Some, None, Option}
+use Rattle.std.specs.Prelude.{Some, None, Option}
 use Rattle.theory.specs.Births as births
 use Rattle.formulas.specs.declared.Birth.{Birth}
 

@@ -1,10 +1,10 @@
 -- What the loops of refinement keep.
-use Rattle.std.specs.Prelude.{◌≡◌, ℕ, suc, ◌+◌, ◌*◌, ◌^◌, ◌<◌, ◌≤◌, min, Bool, true, false, List, length, slice_index, slice_index_or}
+use Rattle.std.specs.Prelude.{◌≡◌, ℕ, suc, ◌+◌, ◌*◌, ◌<◌, ◌≤◌, min, Bool, true, false, List, length, slice_index, slice_index_or}
 use Rattle.lts.specs.Machine.{Machine}
 use Rattle.theory.specs.Blocks.{leader}
 use Rattle.theory.specs.Births.{Birth, alike, settle, sweep, rounds, births, Extends}
 use Rattle.theory.proofs.Growth.{Settled}
-use Rattle.chains.specs.System.{machine_of, Chained, Bounded}
+use Rattle.chains.specs.System.{Chained, Bounded}
 use Rattle.formulas.specs.Link.{births_of, Link}
 
 -- a machine with its chains, and rows wide enough for all formulas that there can be

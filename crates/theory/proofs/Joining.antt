@@ -1,13 +1,12 @@
 -- The terms of a formula, joined line by line: what the lines say is its body.
-use Rattle.std.proofs.Common.{◌≡◌, ℕ, zero, suc, ◌+◌, ◌<◌, ◌≤◌, Bool, true, false, cond, T, eqb, ◌⊎◌, List, [], ◌∷◌, ◌++◌, length, sym, refl, ap, ◌∙◌, subst, inl, inr, true≢false, append_assoc, append-nil, arith, length-append}
-use mathlib.Core.Option.{Option, some}
+use Rattle.std.proofs.Common.{◌≡◌, ℕ, ◌+◌, ◌<◌, ◌≤◌, Bool, true, false, cond, T, ◌⊎◌, List, [], ◌∷◌, ◌++◌, length, sym, refl, ap, ◌∙◌, subst, inl, inr, true≢false, append_assoc, append-nil, arith, length-append}
+use mathlib.Core.Option.{some}
 use Rattle.lts.specs.Machine.{Machine}
 use Rattle.lts.specs.Formula.{Formula, top, neg, and, dia, satisfies}
-use Rattle.lts.specs.Line.{Line, and_line, nth}
+use Rattle.lts.specs.Line.{and_line, nth}
 use Rattle.theory.specs.Births.{Birth, term, both, needed, body, formula, formulas, Extends, begun, grown}
 use Rattle.theory.specs.Rows.{from_oldest, wanted}
 use Rattle.theory.specs.Told.{is_term, Joined, join, joined, conjoined, conjunctions}
-use Rattle.theory.proofs.Bools.{T-is}
 use Rattle.theory.proofs.Answers.{from-oldest-new, from-oldest-old, wanted-new, wanted-old}
 use Rattle.theory.proofs.Ending.{extends_length}
 use Rattle.theory.proofs.Least.{formulas_length}

@@ -1,18 +1,18 @@
 -- The told lines: each needed formula stands at its place, and the last line tells the two states apart.
-use Rattle.std.proofs.Common.{◌≡◌, ℕ, zero, suc, ◌+◌, ◌<◌, ◌≤◌, Bool, true, false, cond, not, ◌&&◌, T, eqb, List, [], ◌∷◌, ◌++◌, length, sym, refl, ap, ◌∙◌, subst, inl, inr, true≢false, append_assoc, append-nil, arith, length-append}
-use mathlib.Core.Option.{Option, some}
+use Rattle.std.proofs.Common.{◌≡◌, ℕ, suc, ◌+◌, ◌<◌, ◌≤◌, Bool, true, false, cond, not, T, List, [], ◌∷◌, ◌++◌, length, sym, refl, ap, ◌∙◌, subst, inl, inr, true≢false, append_assoc, append-nil, arith, length-append}
+use mathlib.Core.Option.{some}
 use Rattle.lts.specs.Machine.{Machine}
-use Rattle.lts.specs.Formula.{Formula, top, neg, dia, satisfies}
-use Rattle.lts.specs.Line.{Line, top_line, neg_line, dia_line, nth}
-use Rattle.theory.specs.Births.{Birth, term, body, formula, formulas, Extends, begun, grown}
+use Rattle.lts.specs.Formula.{Formula, top, neg}
+use Rattle.lts.specs.Line.{Line, dia_line, nth}
+use Rattle.theory.specs.Births.{Birth, term, body, formula, formulas, Extends, begun}
 use Rattle.theory.specs.Rows.{from_oldest, answer}
-use Rattle.theory.specs.Told.{Demands, is_term, demands, Text, term_line, terms_told, with_negation, formula_told, tell, conjunctions, formula_said, all_said}
-use Rattle.theory.proofs.Bools.{T-is, not_is, not_both, and_in, is_T}
+use Rattle.theory.specs.Told.{Demands, is_term, Text, term_line, terms_told, with_negation, formula_told, tell, conjunctions, formula_said, all_said}
+use Rattle.theory.proofs.Bools.{T-is, and_in, is_T}
 use Rattle.theory.proofs.Counting.{below_suc}
 use Rattle.theory.proofs.Answers.{from-oldest-new, from-oldest-old}
 use Rattle.theory.proofs.Least.{formulas_length}
 use Rattle.theory.proofs.Saying.{Run, run_on, nth_below, nth_stays, nth_next, neg_says, dia_says}
-use Rattle.theory.proofs.Demanded.{extra, part, term_below, demanded}
+use Rattle.theory.proofs.Demanded.{extra, part, term_below}
 use Rattle.theory.proofs.Joining.{BodyTold, body_told, extends_rest}
 use Rattle.std.proofs.lemmas.Bool.{eq-eqb, ne_eqb}
 

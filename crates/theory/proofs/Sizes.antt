@@ -1,20 +1,19 @@
 -- What code that marks and tells needs: how many lines a formula takes, what is demanded of it, and terms by the whole list.
-use Rattle.std.proofs.Common.{◌≡◌, ℕ, zero, suc, ◌+◌, ◌<◌, ◌≤◌, max, Bool, true, false, cond, not, ◌&&◌, T, eqb, ◌⊎◌, List, [], ◌∷◌, ◌++◌, length, sym, refl, ap, ◌∙◌, subst, inl, inr, arith, length-append}
+use Rattle.std.proofs.Common.{◌≡◌, ℕ, zero, suc, ◌+◌, ◌<◌, ◌≤◌, max, Bool, true, false, cond, not, ◌&&◌, T, eqb, ◌⊎◌, List, [], ◌∷◌, ◌++◌, length, sym, refl, ◌∙◌, subst, inl, inr, arith, length-append}
 use Rattle.lts.specs.Machine.{Machine, Step}
-use Rattle.lts.specs.Formula.{Formula, top}
+use Rattle.lts.specs.Formula.{top}
 use Rattle.lts.specs.Line.{Line, and_line, dia_line}
 use Rattle.theory.specs.Blocks.{count}
 use Rattle.theory.specs.Births.{Birth, Born, AllBorn, same, alike, formula, formulas, Extends, begun, grown}
 use Rattle.theory.specs.Rows.{answer, first, wanted}
 use Rattle.theory.specs.Told.{Demands, is_term, demands, passed_on, Joined, join, joined, Text, term_line, terms_told, with_negation, formula_told, lines_for, tell, all_said}
-use Rattle.theory.proofs.Bools.{and_in, and_0, and_1, iff_is, is_T, not_T_of}
+use Rattle.theory.proofs.Bools.{and_in, and_1, iff_is, not_T_of}
 use Rattle.theory.proofs.Steps.{any_in, any_out}
 use Rattle.theory.proofs.Answers.{first-old}
 use Rattle.theory.proofs.Terms.{extends_within}
-use Rattle.theory.proofs.Least.{formulas_length}
 use Rattle.theory.proofs.Saying.{nth_below}
-use Rattle.theory.proofs.Demanded.{part, term_below, demanded, demands_keep, passed_keeps}
-use Rattle.theory.proofs.Joining.{extends_rest, from_oldest_extends}
+use Rattle.theory.proofs.Demanded.{part, demanded, demands_keep, passed_keeps}
+use Rattle.theory.proofs.Joining.{extends_rest}
 use Rattle.theory.proofs.Lines.{Stands, stands, term_stands}
 use Rattle.std.proofs.lemmas.Bool.{eq-eqb, ne_eqb}
 

@@ -1,21 +1,21 @@
 -- What is proved of the lines that are told of two states.
-use Rattle.std.proofs.Common.{◌≡◌, ℕ, zero, suc, ◌+◌, ◌-◌, ◌*◌, ◌<◌, ◌≤◌, Bool, true, false, cond, not, ◌&&◌, T, eqb, List, [], ◌∷◌, ◌++◌, length, sym, refl, ap, ◌∙◌, subst, true≢false, suc-mul, mul-le-mul, mul-suc, mul-add, arith, length-append}
+use Rattle.std.proofs.Common.{◌≡◌, ℕ, zero, suc, ◌+◌, ◌-◌, ◌*◌, ◌<◌, ◌≤◌, Bool, true, false, cond, not, ◌&&◌, T, eqb, List, [], ◌∷◌, ◌++◌, length, sym, refl, ap, ◌∙◌, subst, true≢false, suc-mul, mul-le-mul, mul-suc, arith, length-append}
 use mathlib.Core.Option.{Option, some, none}
 use Rattle.lts.specs.Machine.{Machine}
-use Rattle.lts.specs.Formula.{Formula, top, neg, and, dia, satisfies}
+use Rattle.lts.specs.Formula.{Formula, top, neg, and, dia}
 use Rattle.lts.specs.Line.{Line, top_line, neg_line, and_line, dia_line, nth, given, line_formula, said_after, said}
 use Rattle.theory.specs.Together.{Closed}
-use Rattle.theory.specs.Births.{Birth, alike, term, formulas, births, Extends, begun}
-use Rattle.theory.specs.Rows.{from_oldest, answer, first, first_formula}
+use Rattle.theory.specs.Births.{Birth, alike, formulas, births, Extends, begun}
+use Rattle.theory.specs.Rows.{answer, first, first_formula}
 use Rattle.theory.specs.Told.{Demands, is_term, demands, demand_one, Joined, join, joined, Text, terms_told, with_negation, formula_told, tell, asked, told_of, sayings, all_said, LineUses, UsesEarlier}
 use Rattle.theory.specs.Parts.{NeedsTerms}
-use Rattle.theory.proofs.Bools.{T-is, is_T, not_is, and_in}
+use Rattle.theory.proofs.Bools.{T-is, is_T, and_in}
 use Rattle.theory.proofs.Answers.{first_below}
 use Rattle.theory.proofs.Bounds.{births_below_states}
 use Rattle.theory.proofs.Growth.{rounds_settled}
 use Rattle.theory.proofs.Least.{formulas_length}
 use Rattle.theory.proofs.Saying.{run_said, run_sayings, nth_below}
-use Rattle.theory.proofs.Demanded.{part, extra, demanded, demands_above}
+use Rattle.theory.proofs.Demanded.{demanded, demands_above}
 use Rattle.theory.proofs.Lines.{Stands, stands, formula_at}
 use Rattle.std.proofs.lemmas.Bool.{eq-eqb, ne_eqb}
 

@@ -1,5 +1,5 @@
 -- Which lines are told of two states: those of the first formula with different answers and of what it needs, each formula's once.
-use Rattle.std.specs.Prelude.{◌≡◌, ℕ, zero, suc, ◌+◌, ◌<◌, max, Bool, true, false, cond, not, ◌&&◌, ◌||◌, List, [], ◌∷◌, ◌++◌, length, ◌==◌}
+use Rattle.std.specs.Prelude.{ℕ, zero, suc, ◌+◌, ◌<◌, max, Bool, cond, not, ◌&&◌, ◌||◌, List, [], ◌∷◌, ◌++◌, length, ◌==◌}
 use Rattle.std.proofs.Math.Option.{Option, some, none}
 use Rattle.lts.specs.Machine.{Machine}
 use Rattle.lts.specs.Formula.{Formula, top, neg, and, dia}

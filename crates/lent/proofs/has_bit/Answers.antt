@@ -1,4 +1,4 @@
-use Rattle.std.proofs.Common.{◌≡◌, ℕ, ◌/◌, ◌%◌, eqb, get_or, sym, ap, ◌∙◌}
+use Rattle.std.proofs.Common.{ℕ, ◌/◌, ◌%◌, eqb, get_or, sym, ap}
 use Rattle.lent.proofs.Bits.{bit_masked, bit_at_past}
 use Rattle.lent.proofs.has_bit.Goals as goal
 

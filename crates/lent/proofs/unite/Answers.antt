@@ -1,4 +1,4 @@
-use Rattle.std.proofs.Common.{◌∙◌, arith}
+use Rattle.std.proofs.Common.{arith}
 use Rattle.lent.proofs.Ones.{united_all}
 use Rattle.lent.proofs.unite.Goals as goal
 

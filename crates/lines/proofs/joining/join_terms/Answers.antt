@@ -1,5 +1,5 @@
-use Rattle.std.proofs.Common.{◌≡◌, ℕ, ◌+◌, ◌-◌, eqb, length, get_or, sym, ap, subst, add-one, arith}
-use Rattle.theory.specs.Told.{joined, term_line}
+use Rattle.std.proofs.Common.{◌≡◌, ◌+◌, ◌-◌, eqb, length, get_or, sym, ap, subst, add-one, arith}
+use Rattle.theory.specs.Told.{term_line}
 use Rattle.lent.specs.Bits.{bit_at}
 use Rattle.lines.specs.Joins.{Appends, BodyIs, body_by}
 use Rattle.lines.proofs.Appending.{joined_grows}

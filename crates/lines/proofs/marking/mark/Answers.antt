@@ -1,4 +1,4 @@
-use Rattle.std.proofs.Common.{◌≡◌, ℕ, ◌+◌, ◌-◌, List, subst, arith}
+use Rattle.std.proofs.Common.{◌≡◌, ◌+◌, ◌-◌, subst, arith}
 use Rattle.theory.specs.Told.{demand_one}
 use Rattle.lines.specs.Marked.{Demanded, Marking, wanted_in}
 use Rattle.lines.proofs.Passing.{within}

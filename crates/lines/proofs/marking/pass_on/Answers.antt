@@ -1,4 +1,4 @@
-use Rattle.std.proofs.Common.{◌≡◌, ℕ, ◌-◌, ◌*◌, min, max, List, length, sym, ap, ◌∙◌, ap₂, arith}
+use Rattle.std.proofs.Common.{ℕ, ◌-◌, ◌*◌, min, max, List, length, sym, ap, ◌∙◌, ap₂, arith}
 use Rattle.theory.specs.Births.{Birth}
 use Rattle.theory.specs.Told.{lines_for}
 use Rattle.lent.specs.Bits.{bit_at}

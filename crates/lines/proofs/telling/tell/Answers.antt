@@ -1,4 +1,4 @@
-use Rattle.std.proofs.Common.{◌≡◌, ℕ, ◌+◌, ◌≤◌, List, length, sym, refl, ap, ◌∙◌, subst, add-one, arith}
+use Rattle.std.proofs.Common.{◌≡◌, ℕ, List, sym, subst, add-one, arith}
 use Rattle.theory.specs.Births.{Birth, births}
 use Rattle.theory.specs.Told.{tell}
 use Rattle.refine.specs.Refined.{machine_in}

@@ -1,4 +1,4 @@
-use Rattle.std.proofs.Common.{◌≡◌, ℕ, ◌+◌, T, List, length, sym, ap, ◌∙◌, subst, arith}
+use Rattle.std.proofs.Common.{ℕ, List, length, sym, ap, ◌∙◌, subst, arith}
 use Rattle.lts.specs.Line.{dia_line}
 use Rattle.theory.specs.Births.{Birth}
 use Rattle.theory.specs.Told.{Joined}

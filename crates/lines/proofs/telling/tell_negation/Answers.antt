@@ -1,6 +1,5 @@
-use Rattle.std.proofs.Common.{◌≡◌, ℕ, ◌+◌, Bool, cond, eqb, List, [], ◌∷◌, sym, ap, ◌∙◌, subst, arith}
-use Rattle.lts.specs.Line.{Line, neg_line}
-use Rattle.lent.specs.Bits.{bit_at}
+use Rattle.std.proofs.Common.{ℕ, ◌+◌, Bool, cond, [], ◌∷◌, sym, ap, ◌∙◌, subst, arith}
+use Rattle.lts.specs.Line.{neg_line}
 use Rattle.lines.specs.Joins.{Appends}
 use Rattle.lines.proofs.Appending.{append_one}
 use Rattle.lines.proofs.telling.tell_negation.Goals as goal

@@ -1,4 +1,4 @@
-use Rattle.std.proofs.Common.{refl, arith, rules}
+use Rattle.std.proofs.Common.{refl, rules}
 use Rattle.lts.proofs.Encoding.{one_question}
 use Rattle.theory.proofs.Standing.{all_parts}
 use Rattle.observer.proofs.compared.compare.Goals as goal

@@ -1,4 +1,4 @@
-use Rattle.std.proofs.Common.{◌≡◌, not, length, refl, ap, arith}
+use Rattle.std.proofs.Common.{not, length, refl, ap, arith}
 use Rattle.formulas.proofs.Linking.{births_length}
 use Rattle.refine.proofs.Telling.{row_inside}
 use Rattle.lines.specs.Marked.{wanted_in}

@@ -1,8 +1,7 @@
-use Rattle.std.proofs.Common.{◌≡◌, ◌<◌, map, length, string_bytes, codes, sym, ap, ◌∙◌, arith, rules}
-use Rattle.std.proofs.lemmas.Bool.{false≢true}
+use Rattle.std.proofs.Common.{◌≡◌, ◌<◌, map, length, string_bytes, sym, ap, ◌∙◌, rules}
 use Rattle.query.specs.Chosen.{chosen}
 use Rattle.query.specs.Reading.{number_of}
-use Rattle.query.proofs.Choosing.{Other, later, same_none, stop_unknown, stop_nothing, stop_number, goes_on, all_read}
+use Rattle.query.proofs.Choosing.{Other, later, stop_unknown, stop_nothing, stop_number, goes_on, all_read}
 use Rattle.query.proofs.options.parse_options.Goals as goal
 
 pub returns-then-not-gives_room : goal.returns-then-not-gives_room
