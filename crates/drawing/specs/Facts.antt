@@ -1,6 +1,6 @@
 -- What can be said of a drawing and its text, whatever order the text is read in.
 use Rattle.std.specs.Prelude.{◌≡◌, ℕ, ◌<◌, ◌≤◌, List, [], ◌∷◌, map, length, Ok, Err, Result, slice_index_or}
-use Rattle.std.specs.List.{flat_map, AllByRecursion as All}
+use Rattle.std.specs.List.{flat_map, AllByRecursion}
 use Rattle.std.specs.Option.{option_to_list}
 use Rattle.names.specs.Places.{Name, noted_all, Distinct}
 use Rattle.script.specs.Grammar.{Stated, blank, machine, start, state, arrow, Reading, says, fault, reading}
@@ -91,7 +91,7 @@ pub record Faithful (text : List ℕ) (p : Plan) : Type 0 where
   pub few_buttons : length p.buttons ≤ 64
   -- each number is that of a name
   pub start_within : p.start < length p.states
-  pub arrows_within : All (Within p.states p.buttons) p.arrows
+  pub arrows_within : AllByRecursion (Within p.states p.buttons) p.arrows
 
 -- what a reader can rely on: a drawing is faithful, and a refusal names a line of the text
 abbrev pub Reliable : Result Drawing Trouble → List ℕ → Type 0

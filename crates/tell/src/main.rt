@@ -6,6 +6,7 @@ use drawing::{Drawing, decode, parse};
 use observer::{Distance, measure};
 use script::push_name;
 use std::alloc::{AllocError, Global};
+use std::process::ExitCode;
 use std::{env, fs, io};
 
 #[cfg(test)]
@@ -177,20 +178,30 @@ fn usage(rt: &HostRuntime) -> Result<(), Stop> {
     Err(Stop::Said)
 }
 
-fn main(rt: HostRuntime) -> Result<(), Stop> {
-    let mut args = env::args(&rt)?.skip(1);
+// Tells what the arguments ask for.
+fn run(rt: &HostRuntime) -> Result<(), Stop> {
+    let mut args = env::args(rt)?.skip(1);
     let Some(old) = args.next() else {
-        return usage(&rt);
+        return usage(rt);
     };
     if old.as_str() == "--help" {
         rt.print(HELP)?;
         return Ok(());
     }
     let Some(new) = args.next() else {
-        return usage(&rt);
+        return usage(rt);
     };
     if args.next().is_some() {
-        return usage(&rt);
+        return usage(rt);
     }
-    tell(&rt, old.as_str(), new.as_str())
+    tell(rt, old.as_str(), new.as_str())
+}
+
+// An Err of main's is printed, so what has been said is none.
+fn main(rt: HostRuntime) -> Result<ExitCode, Stop> {
+    match run(&rt) {
+        Ok(()) => Ok(ExitCode::SUCCESS),
+        Err(Stop::Said) => Ok(ExitCode::FAILURE),
+        Err(stop) => Err(stop),
+    }
 }

@@ -149,7 +149,7 @@ fn two_are_one_question(rt: HostRuntime) -> Result<(), Fail> {
         Ok(words) => {
             assert_eq!(rt;
                 words.as_slice(),
-                &[4, 4, 0, 0, 1, 1, 1, 0, 2, 2, 3, 3, 0, 2, 0, 3]
+                [4, 4, 0, 0, 1, 1, 1, 0, 2, 2, 3, 3, 0, 2, 0, 3].as_slice()
             );
             Ok(())
         },
