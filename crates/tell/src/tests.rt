@@ -1,6 +1,6 @@
 // What drawings are refused for, and what each form of line gives.
 use beside::{Trouble as Apart, question};
-use drawing::{Drawing, Trouble, decode, parse, print};
+use drawing::{Drawing, decode, parse, print};
 use observer::{Distance, measure};
 use std::alloc::Global;
 use std::process::Abort;
