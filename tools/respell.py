@@ -13,7 +13,7 @@ import sys
 NAME = r"[^\s(){}\[\].;,:λ\"@|]+"
 DEFINED = re.compile(r"^\s*(?:unfoldable )?(?:abbrev )?(?:pub )?(?:record |data |module )?(" + NAME + r")(?=\s*[:(])")
 EDGE = r"[\s(){}\[\].;,:|]"
-GIVEN = re.compile(r"/proofs/.*(Answers|Choices|Invariants|Proof)\.antt$")
+GIVEN = re.compile(r"/proofs/.+/(Answers|Choices|Invariants|Proof)\.antt$")
 # lemmas whose first part is a type
 TYPES = ("T-", "All-")
 # names that would fall together with another
@@ -23,6 +23,8 @@ APART = {"By-rule": "AsksByRule", "bit-and": "bit-bit_and", "bit-or": "bit-bit_o
 def spelled(name):
     if name in APART:
         return APART[name]
+    if name in APART.values():
+        return name
     for t in TYPES:
         if name.startswith(t) and name not in ("All-born", "All-listed", "All-together-at-first"):
             return t + name[len(t):].replace("-", "_")

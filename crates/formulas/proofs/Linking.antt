@@ -9,7 +9,7 @@ use Rattle.theory.specs.Rows.{agrees, answer, first, wanted}
 use Rattle.theory.proofs.Bools.{T-is, is_T, and_in, and_0, and_1}
 use Rattle.theory.proofs.Leaders.{leader_le}
 use Rattle.theory.proofs.Least.{formulas_length}
-use Rattle.theory.proofs.Answers.{answer-new, answer-old, answer-past, first_below, first-differs, first-agrees, agrees-mask, mask-agrees, satisfies-formula, leader-stays, leader-moves}
+use Rattle.theory.proofs.Answers.{answer_new, answer_old, answer_past, first_below, first_differs, first_agrees, agrees_mask, mask_agrees, satisfies_formula, leader_stays, leader_moves}
 use Rattle.lent.specs.Bits.{bit_at, FirstDifference, Agree}
 use Rattle.chains.specs.System.{source_at, label_at, target_at, machine_of, Chained, Bounded}
 use Rattle.formulas.specs.Link.{Link, births_of, row_of}
@@ -70,8 +70,8 @@ first_difference {m} {bs} {rows} {leads} {w} k u v hu hv d =
     let b : first m fs u v < 32 * w = omega (arith, first_below m fs u v d, formulas_length m bs) in
     record {
       within = omega arith;
-      differs = λ h e. first-differs m fs u v d (same_bits k u v (first m fs u v) hu hv b e);
-      before = λ i h. bits_same k u v i hu hv (omega arith) (first-agrees m fs u v i h);
+      differs = λ h e. first_differs m fs u v d (same_bits k u v (first m fs u v) hu hv b e);
+      before = λ i h. bits_same k u v i hu hv (omega arith) (first_agrees m fs u v i h);
     }
 
 -- the first difference of their rows is the first formula that tells them apart
@@ -138,7 +138,7 @@ agree_bit n ws g bs b rows w leads mask k lm ts v x hv h =
     tells_bit x (agrees m fs b.label u b.lack v) (elim h [
       | inl (e, p) ↦ inl (
         e,
-        mask-agrees m fs b.label u b.lack v (λ j l q.
+        mask_agrees m fs b.label u b.lack v (λ j l q.
             same_bits k.link u v j k.reach hv (omega arith) (p j (omega arith) (elim (ts j) [
               | inl (o, t) ↦ o
               | inr (o, t) ↦ absurd (t (wanted_term n ws g bs b rows w leads k j q))
@@ -147,11 +147,11 @@ agree_bit n ws g bs b rows w leads mask k lm ts v x hv h =
       | inr (e, p) ↦ inr (
         e,
         λ q. p (λ j l o. elim (cases_lt j (length fs)) [
-          | inl c ↦ bits_same k.link u v j k.reach hv (omega arith) (agrees-mask m fs b.label u b.lack v q j c (elim (ts j) [
+          | inl c ↦ bits_same k.link u v j k.reach hv (omega arith) (agrees_mask m fs b.label u b.lack v q j c (elim (ts j) [
             | inl (i, t) ↦ term_wanted n ws g bs b rows w leads k j t
             | inr (i, t) ↦ absurd (omega arith)
           ]))
-          | inr c ↦ bits_same k.link u v j k.reach hv (omega arith) (answer-past m fs j u c ∙ sym (answer-past m fs j v c))
+          | inr c ↦ bits_same k.link u v j k.reach hv (omega arith) (answer_past m fs j u c ∙ sym (answer_past m fs j v c))
         ]),
       )
     ])
@@ -169,14 +169,14 @@ holds_bit n ws g bs b rows w leads mask marks k lm ts am s x h =
     tells_bit x sat (elim h [
       | inl (e, p) ↦ inl (
         e,
-        subst T (sym (satisfies-formula m fs b s))
+        subst T (sym (satisfies_formula m fs b s))
             (place_step ws g s b.label f p.place k.whole p.below p.source p.label
             (bit_T (f (target_at ws p.place)) (sym (is (target_at ws p.place) (k.target p.place p.below)) ∙ p.marked))),
       )
       | inr (e, p) ↦ inr (
         e,
         λ q.
-            let (i, l, y, z, o) = step_place ws g s b.label f k.whole (subst T (satisfies-formula m fs b s) q) in
+            let (i, l, y, z, o) = step_place ws g s b.label f k.whole (subst T (satisfies_formula m fs b s) q) in
             p (record { place = i; below = l; source = y; label = z; marked = is (target_at ws i) (k.target i l) ∙ T-bit (f (target_at ws i)) o }),
       )
     ])
@@ -193,11 +193,11 @@ with_old x j l old e = ap (λ c. cond (c && eqb x 1) 1 old) (ne_eqb j l e)
 -- a bit of a row after the formula f was added
 pub bits_with : (m : Machine) (f : Formula) (fs : List Formula) (j s : ℕ) → bit_with (length fs) j (cond (satisfies m f s) 1 0) (cond (answer m fs j s) 1 0) ≡ cond (answer m (f ∷ fs) j s) 1 0
 bits_with m f fs j s = elim (cases_eq j (length fs)) [
-  | inl e ↦ with_new (satisfies m f s) j (length fs) (cond (answer m fs j s) 1 0) (ap (λ b. cond b 1 0) (answer-past m fs j s (omega arith))) e
-      ∙ ap (λ b. cond b 1 0) (sym (ap (λ i. answer m (f ∷ fs) i s) e ∙ answer-new m f fs s))
+  | inl e ↦ with_new (satisfies m f s) j (length fs) (cond (answer m fs j s) 1 0) (ap (λ b. cond b 1 0) (answer_past m fs j s (omega arith))) e
+      ∙ ap (λ b. cond b 1 0) (sym (ap (λ i. answer m (f ∷ fs) i s) e ∙ answer_new m f fs s))
   | inr e ↦ with_old (cond (satisfies m f s) 1 0) j (length fs) (cond (answer m fs j s) 1 0) e ∙ ap (λ b. cond b 1 0) (elim (cases_lt j (length fs)) [
-    | inl l ↦ sym (answer-old m f fs j s l)
-    | inr l ↦ answer-past m fs j s l ∙ sym (answer-past m (f ∷ fs) j s (omega arith))
+    | inl l ↦ sym (answer_old m f fs j s l)
+    | inr l ↦ answer_past m fs j s l ∙ sym (answer_past m (f ∷ fs) j s (omega arith))
   ])
 ]
 
@@ -218,7 +218,7 @@ leaders_with m f fs n leads holds leads' le ho ld t h =
     let low : q < n = omega (arith, leader_le (same m fs) t) in
     let answers : get_or holds old 0 ≡ cond (satisfies m f q) 1 0 = ap (λ s. get_or holds s 0) el ∙ ho q low in
     elim (cases_eq (get_or holds t 0) (get_or holds old 0)) [
-      | inl e ↦ ld.stays t h e ∙ el ∙ sym (leader-stays m f fs t (bit_test (satisfies m f q) (satisfies m f t) (sym answers ∙ sym e ∙ ho t h)))
+      | inl e ↦ ld.stays t h e ∙ el ∙ sym (leader_stays m f fs t (bit_test (satisfies m f q) (satisfies m f t) (sym answers ∙ sym e ∙ ho t h)))
       | inr e ↦
           let a = ld.moves t h e in
           let x = get_or leads' t 0 in
@@ -226,7 +226,7 @@ leaders_with m f fs n leads holds leads' le ho ld t h =
           let hx : x < n = omega arith in
           let dx : satisfies m f x ≡ not (satisfies m f q) = other_bit (satisfies m f x) (satisfies m f q) (λ o. a.differs (ho x hx ∙ o ∙ sym answers)) in
           let dt : satisfies m f t ≡ not (satisfies m f q) = other_bit (satisfies m f t) (satisfies m f q) (λ o. e (ho t h ∙ o ∙ sym answers)) in
-          sym (leader-moves m f fs q x t (sym (le x hx) ∙ a.led ∙ el) refl dx dt
+          sym (leader_moves m f fs q x t (sym (le x hx) ∙ a.led ∙ el) refl dx dt
           (λ z l o. bit_test (satisfies m f z) (satisfies m f q) (sym (ho z (omega arith)) ∙ a.least z l (le z (omega arith) ∙ o ∙ sym el) ∙ answers)))
     ]
 
@@ -255,7 +255,7 @@ rows_differ {m} {bs} {rows} {leads} {w} k u v hu hv d =
     let fs = formulas m bs in
     let r = k.room in
     let b : first m fs u v < 32 * w = omega (arith, first_below m fs u v d, formulas_length m bs) in
-    (first m fs u v, b, λ e. first-differs m fs u v d (same_bits k u v (first m fs u v) hu hv b e))
+    (first m fs u v, b, λ e. first_differs m fs u v d (same_bits k u v (first m fs u v) hu hv b e))
 
 -- leaders are states
 pub leads_within : {m : Machine} {bs : List Birth} {rows leads : List ℕ} {w : ℕ} → Link m bs rows w leads → (t : ℕ) → t < length leads → get_or leads t 0 < length leads

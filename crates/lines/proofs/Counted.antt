@@ -11,7 +11,7 @@ use Rattle.theory.proofs.Sizes.{told_size, demands_here}
 use Rattle.formulas.specs.Link.{birth_at, births_of}
 use Rattle.formulas.proofs.Linking.{births_length}
 use Rattle.refine.specs.declared.Refined.{Refined}
-use Rattle.refine.specs.Refined.{RefinesChained, machine_in}
+use Rattle.refine.specs.Refined.{Refines, machine_in}
 use Rattle.refine.proofs.Telling.{closed_in}
 use Rattle.lines.specs.Terms.{has_term}
 use Rattle.lines.specs.Marked.{Demanded, Passes, wanted_in, Marking, Marked}
@@ -32,7 +32,7 @@ unfolding tell
 tell_none m d = refl
 
 -- how many lines there can be
-pub tell_fits : (r : Refined) → RefinesChained r → (d : Demands) → length (tell (machine_in r) d (births (machine_in r))).lines ≤ 16777217
+pub tell_fits : (r : Refined) → Refines r → (d : Demands) → length (tell (machine_in r) d (births (machine_in r))).lines ≤ 16777217
 tell_fits r h d =
     let m = machine_in r in
     let closed = closed_in r.states r.words.now h.askable in
@@ -40,7 +40,7 @@ tell_fits r h d =
     let up = mul-le-mul {n₁ = length (births m)} {m₁ = suc (length (births m))} {n₂ = 4095} {m₂ = 4096} (omega (arith, h.askable.few)) (omega (arith, h.askable.few)) in
     omega (arith, tell_few m d (births m))
 
-module _ (r : Refined) (h : RefinesChained r) (j : ℕ) (n : Bool) where
+module _ (r : Refined) (h : Refines r) (j : ℕ) (n : Bool) where
   abbrev m : Machine
   m = machine_in r
 

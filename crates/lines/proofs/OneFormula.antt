@@ -16,7 +16,7 @@ use Rattle.lent.specs.Bits.{bit_at}
 use Rattle.formulas.specs.Link.{birth_at, births_of, row_of}
 use Rattle.formulas.proofs.Linking.{births_length}
 use Rattle.refine.specs.declared.Refined.{Refined}
-use Rattle.refine.specs.Refined.{RefinesChained, machine_in}
+use Rattle.refine.specs.Refined.{Refines, machine_in}
 use Rattle.lines.specs.Terms.{has_term, older, TermsAre}
 use Rattle.lines.specs.Marked.{wanted_in, lines_up_to, Marked}
 use Rattle.lines.specs.Joins.{Appends, body_by, BodyIs}
@@ -48,7 +48,7 @@ from_none (b ∷ bs) = grown (from_none bs)
 pub some_line : (m : Machine) (d : Demands) (bs : List Birth) → 1 ≤ length (tell m d bs).lines
 some_line m d bs = omega (arith, tell_grows m d (from_none bs), tell_none m d)
 
-module _ (r : Refined) (h : RefinesChained r) (f : ℕ) (n : Bool) (needed negated : List ℕ) (total : ℕ) (k : Marked r (wanted_in r f n) needed negated total) (j : ℕ) (l : j < r.counts.formulas) where
+module _ (r : Refined) (h : Refines r) (f : ℕ) (n : Bool) (needed negated : List ℕ) (total : ℕ) (k : Marked r (wanted_in r f n) needed negated total) (j : ℕ) (l : j < r.counts.formulas) where
   abbrev m : Machine
   m = machine_in r
 

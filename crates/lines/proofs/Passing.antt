@@ -13,7 +13,7 @@ use Rattle.lent.specs.Bits.{bit_at, bits_set}
 use Rattle.formulas.specs.Link.{birth_at, births_of, row_of}
 use Rattle.formulas.proofs.Linking.{births_length}
 use Rattle.refine.specs.declared.Refined.{Refined}
-use Rattle.refine.specs.Refined.{RefinesChained, machine_in}
+use Rattle.refine.specs.Refined.{Refines, machine_in}
 use Rattle.lines.specs.Terms.{older, has_term, TermsAre}
 use Rattle.lines.specs.Marked.{Demanded, Passed}
 use Rattle.lines.proofs.Known.{in_births, reach_below}
@@ -62,7 +62,7 @@ unfolding count
 count_all f j zero h = ap (count f) (add-zero j)
 count_all f j (suc k) h = ap (count f) (add-suc j k) ∙ ap (λ c. cond c 1 0 + count f (j + k)) (h (j + k) (omega arith)) ∙ omega (arith, count_all f j k h)
 
-module _ (r : Refined) (h : RefinesChained r) (j : ℕ) (l : j < r.counts.formulas) where
+module _ (r : Refined) (h : Refines r) (j : ℕ) (l : j < r.counts.formulas) where
   abbrev m : Machine
   m = machine_in r
 

@@ -7,7 +7,7 @@ ghost use Rattle.lines.specs.Marked.{Demanded, Passes, Marked, wanted_in};
 use crate::terms::{birth_in, find_terms};
 use formulas::row;
 use lent::{clear, count_bits, has_bit, set_bit, unite, unite_lacking};
-use refine::Refined;
+use refine::Linked;
 
 // How many lines a formula with so many terms takes, with its negation or without.
 fn lines_for(terms: usize, negated: bool) -> usize
@@ -20,23 +20,24 @@ fn lines_for(terms: usize, negated: bool) -> usize
 
 // If formula `j` is needed, so are its terms, negated where its reached state lacks them. Gives how many lines it takes.
 fn pass_on(
-    refined: Refined,
+    linked: Linked,
     j: usize,
     needed: &mut [u32],
     negated: &mut [u32],
     mask: &mut [u32],
 ) -> usize
-    requires refined { RefinesChained refined }
-    requires formula { j < refined.counts.formulas }
-    requires needed { length needed.old ≡ refined.width }
-    requires negated { length negated.old ≡ refined.width }
-    requires mask { length mask.old ≡ refined.width }
-    ensures { Passes refined.entry j needed.old negated.old needed.new negated.new result }
+    requires refined { RefinesChained linked }
+    requires formula { j < linked.refined.counts.formulas }
+    requires needed { length needed.old ≡ linked.refined.width }
+    requires negated { length negated.old ≡ linked.refined.width }
+    requires mask { length mask.old ≡ linked.refined.width }
+    ensures { Passes linked.entry.refined j needed.old negated.old needed.new negated.new result }
 {
     if !has_bit(needed, j) {
         return 0;
     }
-    find_terms(refined, j, mask);
+    let refined = linked.refined;
+    find_terms(linked, j, mask);
     let reach = birth_in(refined, j).reach as usize;
     unite(needed, mask);
     unite_lacking(negated, mask, row(refined.rows, refined.width, reach));
@@ -59,24 +60,24 @@ fn mark_one(needed: &mut [u32], negated: &mut [u32], j: usize, negate: bool)
 
 // Marks all that is needed to tell formula `j`, or its negation. Gives how many lines tell it.
 pub fn mark(
-    refined: Refined,
+    linked: Linked,
     j: usize,
     negate: bool,
     needed: &mut [u32],
     negated: &mut [u32],
     mask: &mut [u32],
 ) -> usize
-    requires refined { RefinesChained refined }
-    requires formula { j < refined.counts.formulas }
-    requires needed { length needed.old ≡ refined.width }
-    requires negated { length negated.old ≡ refined.width }
-    requires mask { length mask.old ≡ refined.width }
-    ensures { Marked refined.entry (wanted_in refined.entry j negate) needed.new negated.new result }
+    requires refined { RefinesChained linked }
+    requires formula { j < linked.refined.counts.formulas }
+    requires needed { length needed.old ≡ linked.refined.width }
+    requires negated { length negated.old ≡ linked.refined.width }
+    requires mask { length mask.old ≡ linked.refined.width }
+    ensures { Marked linked.entry.refined (wanted_in linked.entry.refined j negate) needed.new negated.new result }
 {
     mark_one(needed, negated, j, negate);
     let mut lines = 1;
-    for i in (0..refined.counts.formulas).rev() {
-        lines += pass_on(refined, i, needed, negated, mask);
+    for i in (0..linked.refined.counts.formulas).rev() {
+        lines += pass_on(linked, i, needed, negated, mask);
     }
     lines
 }

@@ -2,16 +2,16 @@
 ghost use Rattle.std.specs.Prelude.{◌≡◌, ℕ, ◌<◌, length};
 ghost use Rattle.formulas.specs.Adding.{birth_of};
 ghost use Rattle.formulas.specs.Link.{birth_at};
-ghost use Rattle.refine.specs.Refined.{RefinesChained};
+ghost use Rattle.refine.specs.Refined.{Refines, RefinesChained};
 ghost use Rattle.lines.specs.Terms.{TermsAre};
 
 use chains::System;
 use formulas::{Birth, mark_terms};
-use refine::Refined;
+use refine::{Linked, Refined};
 
 // The birth of formula `j`.
 pub fn birth_in(refined: Refined, j: usize) -> Birth
-    requires refined { RefinesChained refined }
+    requires refined { Refines refined }
     requires formula { j < refined.counts.formulas }
     ensures { birth_of result ≡ birth_at refined.entry.births.now j }
 {
@@ -25,16 +25,17 @@ pub fn birth_in(refined: Refined, j: usize) -> Birth
 }
 
 // The terms of formula `j` as a mask.
-pub fn find_terms(refined: Refined, j: usize, mask: &mut [u32])
-    requires refined { RefinesChained refined }
-    requires formula { j < refined.counts.formulas }
-    requires mask { length mask.old ≡ refined.width }
-    ensures { TermsAre refined.entry j mask.new }
+pub fn find_terms(linked: Linked, j: usize, mask: &mut [u32])
+    requires refined { RefinesChained linked }
+    requires formula { j < linked.refined.counts.formulas }
+    requires mask { length mask.old ≡ linked.refined.width }
+    ensures { TermsAre linked.entry.refined j mask.new }
 {
+    let refined = linked.refined;
     let system = System {
         words: refined.words,
-        first: refined.first,
-        next: refined.next,
+        first: linked.first,
+        next: linked.next,
     };
     let birth = birth_in(refined, j);
     mark_terms(system, refined.rows, refined.width, birth, mask);

@@ -10,7 +10,7 @@ use Rattle.theory.proofs.Told.{told_lines_say, few_lines}
 use Rattle.lent.specs.Bits.{bit_at}
 use Rattle.formulas.specs.Link.{birth_at, row_of}
 use Rattle.refine.specs.declared.Refined.{Refined}
-use Rattle.refine.specs.Refined.{RefinesChained, machine_in, Tells}
+use Rattle.refine.specs.Refined.{Refines, machine_in, Tells}
 use Rattle.refine.proofs.Telling.{closed_in, level_tells}
 use Rattle.lines.specs.Marked.{wanted_in, Marked}
 use Rattle.lines.specs.Written.{Written}
@@ -21,7 +21,7 @@ use Rattle.observer.specs.declared.comparison.Compared.{Compared}
 use Rattle.observer.specs.declared.comparison.Compared.TheVariants.{Same, Differ, OutFull, NoMachine, Few}
 use Rattle.observer.specs.Compared.{most_lines, DifferBy, StandFirst, ApartSays, ComparedSays}
 
-module _ (r : Refined) (h : RefinesChained r) (s t : ℕ) (hs : s < r.states) (ht : t < r.states) (j : ℕ) (w : Tells r s t j) where
+module _ (r : Refined) (h : Refines r) (s t : ℕ) (hs : s < r.states) (ht : t < r.states) (j : ℕ) (w : Tells r s t j) where
   abbrev m : Machine
   m = machine_in r
 

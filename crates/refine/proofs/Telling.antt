@@ -6,7 +6,7 @@ use Rattle.lts.specs.Machine.{Machine}
 use Rattle.theory.specs.Together.{Closed}
 use Rattle.theory.specs.Births.{Birth, formulas, alike, births}
 use Rattle.theory.specs.Rows.{from_oldest, first, first_formula, TellsLeast}
-use Rattle.theory.proofs.Answers.{same_answer, answer-same, from-oldest-new, from-oldest-old}
+use Rattle.theory.proofs.Answers.{same_answer, answer_same, from_oldest_new, from_oldest_old}
 use Rattle.theory.proofs.Bools.{T-or_not}
 use Rattle.theory.proofs.Growth.{rounds_settled}
 use Rattle.theory.proofs.Least.{formulas_length, first_born_tells}
@@ -34,7 +34,7 @@ module _ (m : Machine) (closed : Closed m) (w : ℕ) (rows leads : List ℕ) (li
 
   -- none: they answer alike, and so are bisimilar
   pub untold : length (births m) ≤ q → Bisimilar m s t
-  untold l = alike_bisimilar m closed s t hs ht (answer-same m (formulas m (births m)) s t (λ j h.
+  untold l = alike_bisimilar m closed s t hs ht (answer_same m (formulas m (births m)) s t (λ j h.
       let short : j < length (births m) = omega (arith, formulas_length m (births m)) in
       same_bits link s t j hs ht (omega (arith, link.room)) (d.before j (omega arith))))
 
@@ -44,8 +44,8 @@ birth_there d bw zero j l = absurd (omega arith)
 birth_there d bw (suc k) j l = by (birth_there d bw k j) (below_suc j k l)
   where
     by : (j < k → from_oldest d (births_of bw k) j ≡ birth_at bw j) → (j < k) ⊎ (j ≡ k) → from_oldest d (births_of bw (suc k)) j ≡ birth_at bw j
-    by older (inl h) = from-oldest-old d (birth_at bw k) (births_of bw k) j (omega (arith, length_births bw k)) ∙ older h
-    by older (inr e) = ap (from_oldest d (births_of bw (suc k))) (e ∙ sym (length_births bw k)) ∙ from-oldest-new d (birth_at bw k) (births_of bw k) ∙ ap (birth_at bw) (sym e)
+    by older (inl h) = from_oldest_old d (birth_at bw k) (births_of bw k) j (omega (arith, length_births bw k)) ∙ older h
+    by older (inr e) = ap (from_oldest d (births_of bw (suc k))) (e ∙ sym (length_births bw k)) ∙ from_oldest_new d (birth_at bw k) (births_of bw k) ∙ ap (birth_at bw) (sym e)
 
 -- what was refined: its machine is closed
 pub closed_in : (n : ℕ) (ws : List ℕ) → Askable n ws → Closed (machine_of n ws)

@@ -8,6 +8,7 @@ use Rattle.theory.specs.Births.{formulas, alike, births}
 use Rattle.theory.specs.Rows.{first, first_formula, TellsLeast}
 use Rattle.chains.specs.System.{machine_of, Chained, Bounded}
 use Rattle.refine.specs.declared.Refined.{Refined}
+use Rattle.refine.specs.declared.Linked.{Linked}
 use Rattle.refine.specs.Rounds.{Done}
 
 -- words of a machine that can be asked about: 1 to 4,096 states, at most 16,384 transitions between them
@@ -37,15 +38,12 @@ pub record Refines (r : Refined) : Type 0 where
   pub narrow : r.width ≤ 128
   pub room : 4 * r.counts.formulas ≤ length r.births.now
 
--- the machine can be asked about, its chains stand, the list of formulas is the theory's, the rows are its answers, and leaders lead
-pub record RefinesChained (r : Refined) : Type 0 where
-  pub askable : Askable r.states r.words.now
-  pub chained : Chained r.words.now r.first.now r.next.now
-  pub bounded : Bounded r.states r.words.now r.next.now
-  pub each : length r.first.now ≡ r.states
-  pub done : Done (machine_in r) r.counts.rounds r.width r.births.now r.counts.formulas r.rows.now r.leads.now
-  pub narrow : r.width ≤ 128
-  pub room : 4 * r.counts.formulas ≤ length r.births.now
+-- so it is for the machine that was refined, and its chains stand
+pub record RefinesChained (l : Linked) : Type 0 where
+  pub refines : Refines l.refined
+  pub chained : Chained l.refined.words.now l.first.now l.next.now
+  pub bounded : Bounded l.refined.states l.refined.words.now l.next.now
+  pub each : length l.first.now ≡ l.refined.states
 
 -- formula j of the list is the first that tells s from t
 pub record Tells (r : Refined) (s t j : ℕ) : Type 0 where

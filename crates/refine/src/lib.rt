@@ -201,18 +201,24 @@ fn run_rounds(
     }
 }
 
-// A machine that was refined, with its chains and what refinement leaves: for each state a row of answers, `width` words wide, and its leader; and the births of the formulas, four words each.
+// A machine that was refined, with what that leaves: for each state a row of answers, `width` words wide, and its leader; and the births of the formulas, four words each.
 #[derive(Clone, Copy)]
 pub struct Refined<'a> {
     pub states: usize,
     pub words: &'a [u32],
-    pub first: &'a [u32],
-    pub next: &'a [u32],
     pub width: usize,
     pub rows: &'a [u32],
     pub leads: &'a [u32],
     pub births: &'a [u32],
     pub counts: Counts,
+}
+
+// A machine that was refined, and its chains: each state's first transition, each transition's next.
+#[derive(Clone, Copy)]
+pub struct Linked<'a> {
+    pub refined: Refined<'a>,
+    pub first: &'a [u32],
+    pub next: &'a [u32],
 }
 
 // How many words hold a bit for each formula that there can be.
@@ -226,10 +232,10 @@ fn row_width(states: usize, transitions: usize) -> usize
 }
 
 // Parts the states of a machine, in lent words, and keeps its chains: three words for each transition are given.
-pub fn refine_chained<'a>(states: usize, words: &'a [u32], memory: &'a mut [u32]) -> Refined<'a>
+pub fn refine_chained<'a>(states: usize, words: &'a [u32], memory: &'a mut [u32]) -> Linked<'a>
     requires askable { Askable states words.now }
     requires enough { Suffices words.now memory.old }
-    ensures machine { (result.states ≡ states) × (result.words.now ≡ words.now) }
+    ensures machine { (result.refined.states ≡ states) × (result.refined.words.now ≡ words.now) }
     ensures refined { RefinesChained result }
 {
     let transitions = words.len() / 3;
@@ -247,16 +253,19 @@ pub fn refine_chained<'a>(states: usize, words: &'a [u32], memory: &'a mut [u32]
     fill(rows, 0);
     let system = System { words, first, next };
     let counts = run_rounds(system, width, old, skips, rows, leads, births, scratch);
-    Refined {
+    let refined = Refined {
         states,
         words,
-        first,
-        next,
         width,
         rows,
         leads,
         births,
         counts,
+    };
+    Linked {
+        refined,
+        first,
+        next,
     }
 }
 
@@ -267,7 +276,7 @@ pub fn refine<'a>(states: usize, words: &'a [u32], memory: &'a mut [u32]) -> Ref
     ensures machine { (result.states ≡ states) × (result.words.now ≡ words.now) }
     ensures refined { Refines result }
 {
-    refine_chained(states, words, memory)
+    refine_chained(states, words, memory).refined
 }
 
 // The first formula that tells two states apart, by its number; none exactly if the two are bisimilar.

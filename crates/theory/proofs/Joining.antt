@@ -7,7 +7,7 @@ use Rattle.lts.specs.Line.{and_line, nth}
 use Rattle.theory.specs.Births.{Birth, term, both, needed, body, formula, formulas, Extends, begun, grown}
 use Rattle.theory.specs.Rows.{from_oldest, wanted}
 use Rattle.theory.specs.Told.{is_term, Joined, join, joined, conjoined, conjunctions}
-use Rattle.theory.proofs.Answers.{from-oldest-new, from-oldest-old, wanted-new, wanted-old}
+use Rattle.theory.proofs.Answers.{from_oldest_new, from_oldest_old, wanted_new, wanted_old}
 use Rattle.theory.proofs.Ending.{extends_length}
 use Rattle.theory.proofs.Least.{formulas_length}
 use Rattle.theory.proofs.Saying.{Run, run_on, nth_below, nth_stays, nth_next, and_says}
@@ -17,13 +17,13 @@ use Rattle.std.proofs.lemmas.Bool.{eq-eqb, ne_eqb}
 pub from_oldest_extends : (m : Machine) (d : Formula) (j : ℕ) {bs old : List Birth} → Extends bs old → j < length old → from_oldest d (formulas m bs) j ≡ from_oldest d (formulas m old) j
 from_oldest_extends m d j begun h = refl
 from_oldest_extends m d j (grown {b} {bs} g) h =
-    from-oldest-old d (formula m (formulas m bs) b) (formulas m bs) j (omega (arith, extends_length g, formulas_length m bs)) ∙ from_oldest_extends m d j g h
+    from_oldest_old d (formula m (formulas m bs) b) (formulas m bs) j (omega (arith, extends_length g, formulas_length m bs)) ∙ from_oldest_extends m d j g h
 
 -- and its terms
 pub wanted_extends : (m : Machine) (a u y j : ℕ) {bs old : List Birth} → Extends bs old → j < length old → wanted m (formulas m bs) a u y j ≡ wanted m (formulas m old) a u y j
 wanted_extends m a u y j begun h = refl
 wanted_extends m a u y j (grown {b} {bs} g) h =
-    wanted-old m (formula m (formulas m bs) b) (formulas m bs) a u y j (omega (arith, extends_length g, formulas_length m bs)) ∙ wanted_extends m a u y j g h
+    wanted_old m (formula m (formulas m bs) b) (formulas m bs) a u y j (omega (arith, extends_length g, formulas_length m bs)) ∙ wanted_extends m a u y j g h
 
 -- a list that began as a longer one began as its rest
 pub extends_rest : {bs cs : List Birth} {c : Birth} → Extends bs (c ∷ cs) → Extends bs cs
@@ -34,12 +34,12 @@ extends_rest (grown g) = grown (extends_rest g)
 at_oldest : (m : Machine) (d : Formula) (c : Birth) (cs : List Birth) {bs : List Birth} → Extends bs (c ∷ cs) → from_oldest d (formulas m bs) (length cs) ≡ formula m (formulas m cs) c
 at_oldest m d c cs g =
     let f = formula m (formulas m cs) c in
-    from_oldest_extends m d (length cs) g (omega arith) ∙ sym (ap (from_oldest d (f ∷ formulas m cs)) (formulas_length m cs)) ∙ from-oldest-new d f (formulas m cs)
+    from_oldest_extends m d (length cs) g (omega arith) ∙ sym (ap (from_oldest d (f ∷ formulas m cs)) (formulas_length m cs)) ∙ from_oldest_new d f (formulas m cs)
 
 at_wanted : (m : Machine) (a u y : ℕ) (c : Birth) (cs : List Birth) {bs : List Birth} → Extends bs (c ∷ cs) → wanted m (formulas m bs) a u y (length cs) ≡ needed m (formula m (formulas m cs) c) (formulas m cs) a u y
 at_wanted m a u y c cs g =
     let f = formula m (formulas m cs) c in
-    wanted_extends m a u y (length cs) g (omega arith) ∙ sym (ap (wanted m (f ∷ formulas m cs) a u y) (formulas_length m cs)) ∙ wanted-new m f (formulas m cs) a u y
+    wanted_extends m a u y (length cs) g (omega arith) ∙ sym (ap (wanted m (f ∷ formulas m cs) a u y) (formulas_length m cs)) ∙ wanted_new m f (formulas m cs) a u y
 
 -- a formula that isn't `top`
 abbrev Proper : Formula → Type 0

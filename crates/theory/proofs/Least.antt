@@ -8,7 +8,7 @@ use Rattle.theory.specs.Rows.{from_oldest, first, first_formula, TellsLeast}
 use Rattle.theory.proofs.Bools.{T-or_not, not_both, T-is, not_is, and_not, is_beq}
 use Rattle.theory.proofs.Agreement.{together_agrees}
 use Rattle.theory.proofs.Terms.{satisfies_term, depth_term}
-use Rattle.theory.proofs.Answers.{from-oldest-new, from-oldest-old, first-new, first-old, first_below}
+use Rattle.theory.proofs.Answers.{from_oldest_new, from_oldest_old, first_new, first_old, first_below}
 
 -- a formula for each birth
 pub formulas_length : (m : Machine) (bs : List Birth) → length (formulas m bs) ≡ length bs
@@ -37,16 +37,16 @@ first_born_tells m k d (b ∷ bs) s t (l, o, h) hs ht g =
     let f = formula m fs b in
     elim (T-or_not (alike m bs s t)) [
       | inl p ↦
-          let e = first-new m f fs s t p in
-          let i = ap (from_oldest (neg top) (f ∷ fs)) e ∙ from-oldest-new (neg top) f fs in
-          let j = ap (from_oldest d (b ∷ bs)) (e ∙ formulas_length m bs) ∙ from-oldest-new d b bs in
+          let e = first_new m f fs s t p in
+          let i = ap (from_oldest (neg top) (f ∷ fs)) e ∙ from_oldest_new (neg top) f fs in
+          let j = ap (from_oldest d (b ∷ bs)) (e ∙ formulas_length m bs) ∙ from_oldest_new d b bs in
           subst (λ (x : Formula). TellsLeast m s t (term m x s) (from_oldest d (b ∷ bs) (first m (f ∷ fs) s t)).level) (sym i)
           (subst (λ (x : Birth). TellsLeast m s t (term m f s) x.level) (sym j) (born_tells m bs b s t o hs ht p g))
       | inr p ↦
-          let e = first-old m f fs s t p in
+          let e = first_old m f fs s t p in
           let w = first_below m fs s t p in
-          let i = ap (from_oldest (neg top) (f ∷ fs)) e ∙ from-oldest-old (neg top) f fs (first m fs s t) w in
-          let j = ap (from_oldest d (b ∷ bs)) e ∙ from-oldest-old d b bs (first m fs s t) (omega (arith, formulas_length m bs)) in
+          let i = ap (from_oldest (neg top) (f ∷ fs)) e ∙ from_oldest_old (neg top) f fs (first m fs s t) w in
+          let j = ap (from_oldest d (b ∷ bs)) e ∙ from_oldest_old d b bs (first m fs s t) (omega (arith, formulas_length m bs)) in
           subst (λ (x : Formula). TellsLeast m s t (term m x s) (from_oldest d (b ∷ bs) (first m (f ∷ fs) s t)).level) (sym i)
           (subst (λ (x : Birth). TellsLeast m s t (first_formula m bs s t) x.level) (sym j) (first_born_tells m k d bs s t h hs ht p))
     ]

@@ -9,7 +9,7 @@ use Rattle.theory.specs.Rows.{from_oldest, answer}
 use Rattle.theory.specs.Told.{Demands, is_term, Text, term_line, terms_told, with_negation, formula_told, tell, conjunctions, formula_said, all_said}
 use Rattle.theory.proofs.Bools.{T-is, and_in, is_T}
 use Rattle.theory.proofs.Counting.{below_suc}
-use Rattle.theory.proofs.Answers.{from-oldest-new, from-oldest-old}
+use Rattle.theory.proofs.Answers.{from_oldest_new, from_oldest_old}
 use Rattle.theory.proofs.Least.{formulas_length}
 use Rattle.theory.proofs.Saying.{Run, run_on, nth_below, nth_stays, nth_next, neg_says, dia_says}
 use Rattle.theory.proofs.Demanded.{extra, part, term_below}
@@ -37,10 +37,10 @@ pub record Stands (m : Machine) (d : Demands) (bs : List Birth) (x : Text) (fs :
 
 -- the newest formula, and the others, where one birth is added
 at_new : (m : Machine) (b : Birth) (bs : List Birth) (i : ℕ) → i ≡ length bs → formula_at m (b ∷ bs) i ≡ formula m (formulas m bs) b
-at_new m b bs i e = ap (formula_at m (b ∷ bs)) (e ∙ sym (formulas_length m bs)) ∙ from-oldest-new (neg top) (formula m (formulas m bs) b) (formulas m bs)
+at_new m b bs i e = ap (formula_at m (b ∷ bs)) (e ∙ sym (formulas_length m bs)) ∙ from_oldest_new (neg top) (formula m (formulas m bs) b) (formulas m bs)
 
 at_old : (m : Machine) (b : Birth) (bs : List Birth) (i : ℕ) → i < length bs → formula_at m (b ∷ bs) i ≡ formula_at m bs i
-at_old m b bs i h = from-oldest-old (neg top) (formula m (formulas m bs) b) (formulas m bs) i (omega (arith, formulas_length m bs))
+at_old m b bs i h = from_oldest_old (neg top) (formula m (formulas m bs) b) (formulas m bs) i (omega (arith, formulas_length m bs))
 
 module _ (m : Machine) (d : Demands) where
   -- a formula that isn't needed adds nothing

@@ -9,7 +9,7 @@ use Rattle.theory.specs.Rows.{answer, first, wanted}
 use Rattle.theory.specs.Told.{Demands, is_term, demands, passed_on, Joined, join, joined, Text, term_line, terms_told, with_negation, formula_told, lines_for, tell, all_said}
 use Rattle.theory.proofs.Bools.{and_in, and_1, iff_is, not_T_of}
 use Rattle.theory.proofs.Steps.{any_in, any_out}
-use Rattle.theory.proofs.Answers.{first-old}
+use Rattle.theory.proofs.Answers.{first_old}
 use Rattle.theory.proofs.Terms.{extends_within}
 use Rattle.theory.proofs.Saying.{nth_below}
 use Rattle.theory.proofs.Demanded.{part, demanded, demands_keep, passed_keeps}
@@ -107,7 +107,7 @@ born_in m k b bs (grown g) (l, o, h) = born_in m k b bs g h
 first_extends : (m : Machine) (u v : ℕ) {all bs : List Birth} → Extends all bs → T (not (alike m bs u v)) → first m (formulas m all) u v ≡ first m (formulas m bs) u v
 first_extends m u v begun h = refl
 first_extends m u v (grown {b} {bs} {old} g) h =
-    first-old m (formula m (formulas m bs) b) (formulas m bs) u v (not_T_of (same m (formulas m bs) u v) (alike m old u v) (extends_within m g u v) h) ∙ first_extends m u v g h
+    first_old m (formula m (formulas m bs) b) (formulas m bs) u v (not_T_of (same m (formulas m bs) u v) (alike m old u v) (extends_within m g u v) h) ∙ first_extends m u v g h
 
 -- so the terms of a birth may be found by the whole list
 pub wanted_older : (m : Machine) (a u y : ℕ) {all bs : List Birth} → Extends all bs → ((v : ℕ) → Step m y a v → T (not (alike m bs u v))) → (q : ℕ) → wanted m (formulas m all) a u y q ≡ wanted m (formulas m bs) a u y q

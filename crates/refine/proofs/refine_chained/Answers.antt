@@ -67,12 +67,14 @@ returns c =
     record {
       machine = (refl, refl);
       refined = record {
-        askable = c.requires.askable;
+        refines = record {
+          askable = c.requires.askable;
+          done = done;
+          narrow = omega (arith, c.row_width-width.ensures.narrow, c.requires.askable.few);
+          room = omega (arith, done.link.room, ap length done.born, length_births bw k.formulas, c.run_rounds-counts.auto.births, c.split_at_mut-births.ensures.front_len);
+        };
         chained = c.chain.ensures;
         bounded = bounded_of n ws ns whole c.requires.askable.inside;
         each = states;
-        done = done;
-        narrow = omega (arith, c.row_width-width.ensures.narrow, c.requires.askable.few);
-        room = omega (arith, done.link.room, ap length done.born, length_births bw k.formulas, c.run_rounds-counts.auto.births, c.split_at_mut-births.ensures.front_len);
       };
     }
