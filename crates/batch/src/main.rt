@@ -1,6 +1,9 @@
 // Answers questions by words, one question a line: batch [--lines WORDS] [--work WORDS].
 #![tactic(auto)]
 
+ghost use Rattle.std.specs.Prelude.{◌≡◌, ◌≢◌, IsOk, IsErr, IsOkAnd, IsErrAnd, Err};
+ghost use Rattle.std.specs.Process.{exit_status};
+
 use query::{
     Answer, Command, Lending, MOST_LENT, MOST_WORDS, Options, ask, parse_options, read_words,
 };
@@ -9,6 +12,8 @@ use std::io::{BufRead, BufReader, BufWriter, ErrorKind, Write};
 use std::process::ExitCode;
 use std::{env, io};
 
+#[cfg(test)]
+mod compare_tests;
 #[cfg(test)]
 mod tests;
 
@@ -151,11 +156,19 @@ fn run(rt: &HostRuntime) -> Result<(), Stop> {
     }
 }
 
-// Status 1 where something is wrong; what has been said is not said again.
-fn main(rt: HostRuntime) -> Result<ExitCode, Stop> {
-    match run(&rt) {
+// How a run ends the program: what has been said is not said again; another error goes to who runs `main`, which prints it.
+fn ended(run: Result<(), Stop>) -> Result<ExitCode, Stop>
+    ensures done { IsOk run → IsOkAnd result (λ c. exit_status c ≡ 0) }
+    ensures said { run ≡ Err Stop.Said → IsOkAnd result (λ c. exit_status c ≡ 1) }
+    ensures other { IsErr run → run ≢ Err Stop.Said → IsErrAnd result (λ e. run ≡ Err e) }
+{
+    match run {
         Ok(()) => Ok(ExitCode::SUCCESS),
         Err(Stop::Said) => Ok(ExitCode::FAILURE),
         Err(stop) => Err(stop),
     }
+}
+
+fn main(rt: HostRuntime) -> Result<ExitCode, Stop> {
+    ended(run(&rt))
 }

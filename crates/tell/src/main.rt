@@ -1,6 +1,9 @@
 // Tells what two drawings show: tell OLD NEW.
 #![tactic(auto)]
 
+ghost use Rattle.std.specs.Prelude.{◌≡◌, ◌≢◌, IsOk, IsErr, IsOkAnd, IsErrAnd, Err};
+ghost use Rattle.std.specs.Process.{exit_status};
+
 use beside::{Trouble as Apart, question};
 use drawing::{Drawing, decode, parse};
 use observer::{Distance, measure};
@@ -197,11 +200,19 @@ fn run(rt: &HostRuntime) -> Result<(), Stop> {
     tell(rt, old.as_str(), new.as_str())
 }
 
-// An Err of main's is printed, so what has been said is none.
-fn main(rt: HostRuntime) -> Result<ExitCode, Stop> {
-    match run(&rt) {
+// How a run ends the program: what has been said is not said again; another error goes to who runs `main`, which prints it.
+fn ended(run: Result<(), Stop>) -> Result<ExitCode, Stop>
+    ensures done { IsOk run → IsOkAnd result (λ c. exit_status c ≡ 0) }
+    ensures said { run ≡ Err Stop.Said → IsOkAnd result (λ c. exit_status c ≡ 1) }
+    ensures other { IsErr run → run ≢ Err Stop.Said → IsErrAnd result (λ e. run ≡ Err e) }
+{
+    match run {
         Ok(()) => Ok(ExitCode::SUCCESS),
         Err(Stop::Said) => Ok(ExitCode::FAILURE),
         Err(stop) => Err(stop),
     }
+}
+
+fn main(rt: HostRuntime) -> Result<ExitCode, Stop> {
+    ended(run(&rt))
 }
