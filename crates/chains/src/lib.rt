@@ -120,7 +120,7 @@ fn first_missing(system: System, old: &[u32], x: usize, sets: &[u32]) -> Option<
 }
 
 // The first transition of `x` that `y` does not match, over chains of representatives.
-pub fn unmatched_linked(
+pub fn unmatched_represented(
     system: System,
     old: &[u32],
     x: State,
@@ -144,7 +144,7 @@ pub fn unmatched(system: System, old: &[u32], x: usize, y: usize, sets: &mut [u3
     requires other { y < length system.first.now }
     ensures { FirstUnmatched system.entry.words.now old.now (length system.entry.first.now) (length system.entry.next.now) x y result }
 {
-    unmatched_linked(system, old, State(x), State(y), sets)
+    unmatched_represented(system, old, State(x), State(y), sets)
 }
 
 // Puts the label of transition `j` into the set of the block that it leads into. Gives `j` if it was not there, else `last`.

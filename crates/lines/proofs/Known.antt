@@ -14,7 +14,7 @@ use Rattle.formulas.specs.Link.{birth_at, births_of}
 use Rattle.formulas.specs.Marks.{Terms, Differing}
 use Rattle.formulas.proofs.Linking.{Adding, rows_differ, terms_bit}
 use Rattle.formulas.proofs.Transitions.{place_among}
-use Rattle.refine.specs.declared.Linked.{Linked}
+use Rattle.refine.specs.declared.RefinedChained.{RefinedChained}
 use Rattle.refine.specs.declared.Refined.{Refined}
 use Rattle.refine.specs.Refined.{Refines, RefinesChained, machine_in}
 use Rattle.refine.proofs.Telling.{closed_in}
@@ -57,7 +57,7 @@ module _ (r : Refined) (h : Refines r) (j : ℕ) (l : j < r.counts.formulas) whe
   told_apart : (v : ℕ) → Step m b.lack b.label v → T (not (alike m (births m) b.reach v))
   told_apart v p = not_T_of (alike m (births m) b.reach v) (alike m bs b.reach v) (extends_within m (extends_rest in_births) b.reach v) (born.lacks v p)
 
-module _ (c : Linked) (h : RefinesChained c) (j : ℕ) (l : j < c.refined.counts.formulas) where
+module _ (c : RefinedChained) (h : RefinesChained c) (j : ℕ) (l : j < c.refined.counts.formulas) where
   abbrev r : Refined
   r = c.refined
 

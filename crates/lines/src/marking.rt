@@ -7,7 +7,7 @@ ghost use Rattle.lines.specs.Marked.{Demanded, Passes, Marked, wanted_in};
 use crate::terms::{birth_in, find_terms};
 use formulas::row;
 use lent::{clear, count_bits, has_bit, set_bit, unite, unite_lacking};
-use refine::Linked;
+use refine::RefinedChained;
 
 // How many lines a formula with so many terms takes, with its negation or without.
 fn lines_for(terms: usize, negated: bool) -> usize
@@ -20,24 +20,24 @@ fn lines_for(terms: usize, negated: bool) -> usize
 
 // If formula `j` is needed, so are its terms, negated where its reached state lacks them. Gives how many lines it takes.
 fn pass_on(
-    linked: Linked,
+    chained: RefinedChained,
     j: usize,
     needed: &mut [u32],
     negated: &mut [u32],
     mask: &mut [u32],
 ) -> usize
-    requires refined { RefinesChained linked }
-    requires formula { j < linked.refined.counts.formulas }
-    requires needed { length needed.old ≡ linked.refined.width }
-    requires negated { length negated.old ≡ linked.refined.width }
-    requires mask { length mask.old ≡ linked.refined.width }
-    ensures { Passes linked.entry.refined j needed.old negated.old needed.new negated.new result }
+    requires refined { RefinesChained chained }
+    requires formula { j < chained.refined.counts.formulas }
+    requires needed { length needed.old ≡ chained.refined.width }
+    requires negated { length negated.old ≡ chained.refined.width }
+    requires mask { length mask.old ≡ chained.refined.width }
+    ensures { Passes chained.entry.refined j needed.old negated.old needed.new negated.new result }
 {
     if !has_bit(needed, j) {
         return 0;
     }
-    let refined = linked.refined;
-    find_terms(linked, j, mask);
+    let refined = chained.refined;
+    find_terms(chained, j, mask);
     let reach = birth_in(refined, j).reach as usize;
     unite(needed, mask);
     unite_lacking(negated, mask, row(refined.rows, refined.width, reach));
@@ -60,24 +60,24 @@ fn mark_one(needed: &mut [u32], negated: &mut [u32], j: usize, negate: bool)
 
 // Marks all that is needed to tell formula `j`, or its negation. Gives how many lines tell it.
 pub fn mark(
-    linked: Linked,
+    chained: RefinedChained,
     j: usize,
     negate: bool,
     needed: &mut [u32],
     negated: &mut [u32],
     mask: &mut [u32],
 ) -> usize
-    requires refined { RefinesChained linked }
-    requires formula { j < linked.refined.counts.formulas }
-    requires needed { length needed.old ≡ linked.refined.width }
-    requires negated { length negated.old ≡ linked.refined.width }
-    requires mask { length mask.old ≡ linked.refined.width }
-    ensures { Marked linked.entry.refined (wanted_in linked.entry.refined j negate) needed.new negated.new result }
+    requires refined { RefinesChained chained }
+    requires formula { j < chained.refined.counts.formulas }
+    requires needed { length needed.old ≡ chained.refined.width }
+    requires negated { length negated.old ≡ chained.refined.width }
+    requires mask { length mask.old ≡ chained.refined.width }
+    ensures { Marked chained.entry.refined (wanted_in chained.entry.refined j negate) needed.new negated.new result }
 {
     mark_one(needed, negated, j, negate);
     let mut lines = 1;
-    for i in (0..linked.refined.counts.formulas).rev() {
-        lines += pass_on(linked, i, needed, negated, mask);
+    for i in (0..chained.refined.counts.formulas).rev() {
+        lines += pass_on(chained, i, needed, negated, mask);
     }
     lines
 }

@@ -14,7 +14,7 @@ use crate::needs::Needs;
 use crate::terms::{birth_in, find_terms};
 use formulas::row;
 use lent::has_bit;
-use refine::Linked;
+use refine::RefinedChained;
 
 // Tells the negation of formula `j`, which stands at line `at`, if it is needed. Gives the number of the next line.
 fn tell_negation(negated: &[u32], j: usize, at: usize, lines: &mut [u32]) -> usize
@@ -32,7 +32,7 @@ fn tell_negation(negated: &[u32], j: usize, at: usize, lines: &mut [u32]) -> usi
 
 // Tells formula `j` if it is needed, from line `next` on, and notes its place. Gives the number of the next line.
 fn tell_formula(
-    linked: Linked,
+    chained: RefinedChained,
     needs: Needs,
     j: usize,
     next: usize,
@@ -40,21 +40,21 @@ fn tell_formula(
     places: &mut [u32],
     lines: &mut [u32],
 ) -> usize
-    requires refined { RefinesChained linked }
-    requires needs { NeedsAre linked.refined needs }
-    requires formula { j < linked.refined.counts.formulas }
-    requires next { next ≡ lines_up_to linked.refined (all_needed linked.refined needs) j }
-    requires mask { length mask.old ≡ linked.refined.width }
-    requires places { linked.refined.counts.formulas ≤ length places.old }
-    requires placed { Placed linked.refined (all_needed linked.refined needs) j places.old }
+    requires refined { RefinesChained chained }
+    requires needs { NeedsAre chained.refined needs }
+    requires formula { j < chained.refined.counts.formulas }
+    requires next { next ≡ lines_up_to chained.refined (all_needed chained.refined needs) j }
+    requires mask { length mask.old ≡ chained.refined.width }
+    requires places { chained.refined.counts.formulas ≤ length places.old }
+    requires placed { Placed chained.refined (all_needed chained.refined needs) j places.old }
     requires room { 3 * needs.lines ≤ length lines.old }
-    ensures { ToldOn linked.entry.refined (all_needed linked.entry.refined needs.entry) j lines.old result places.new lines.new }
+    ensures { ToldOn chained.entry.refined (all_needed chained.entry.refined needs.entry) j lines.old result places.new lines.new }
 {
     if !has_bit(needs.needed, j) {
         return next;
     }
-    let refined = linked.refined;
-    find_terms(linked, j, mask);
+    let refined = chained.refined;
+    find_terms(chained, j, mask);
     let birth = birth_in(refined, j);
     let reach = row(refined.rows, refined.width, birth.reach as usize);
     let body = join_terms(mask, reach, places, j, next, lines);
@@ -64,17 +64,23 @@ fn tell_formula(
 }
 
 // Writes the lines that tell the formula of `needs`.
-pub fn tell(linked: Linked, needs: Needs, mask: &mut [u32], places: &mut [u32], lines: &mut [u32])
-    requires refined { RefinesChained linked }
-    requires needs { NeedsAre linked.refined needs }
-    requires mask { length mask.old ≡ linked.refined.width }
-    requires places { linked.refined.counts.formulas ≤ length places.old }
+pub fn tell(
+    chained: RefinedChained,
+    needs: Needs,
+    mask: &mut [u32],
+    places: &mut [u32],
+    lines: &mut [u32],
+)
+    requires refined { RefinesChained chained }
+    requires needs { NeedsAre chained.refined needs }
+    requires mask { length mask.old ≡ chained.refined.width }
+    requires places { chained.refined.counts.formulas ≤ length places.old }
     requires room { 3 * needs.lines ≤ length lines.old }
-    ensures { Written lines.old (told_by linked.entry.refined needs.entry) lines.new }
+    ensures { Written lines.old (told_by chained.entry.refined needs.entry) lines.new }
 {
     write_line(lines, 0, Says::Top);
     let mut next = 1;
-    for j in 0..linked.refined.counts.formulas {
-        next = tell_formula(linked, needs, j, next, mask, places, lines);
+    for j in 0..chained.refined.counts.formulas {
+        next = tell_formula(chained, needs, j, next, mask, places, lines);
     }
 }

@@ -7,7 +7,7 @@ ghost use Rattle.lines.specs.Terms.{TermsAre};
 
 use chains::System;
 use formulas::{Birth, mark_terms};
-use refine::{Linked, Refined};
+use refine::{Refined, RefinedChained};
 
 // The birth of formula `j`.
 pub fn birth_in(refined: Refined, j: usize) -> Birth
@@ -25,17 +25,17 @@ pub fn birth_in(refined: Refined, j: usize) -> Birth
 }
 
 // The terms of formula `j` as a mask.
-pub fn find_terms(linked: Linked, j: usize, mask: &mut [u32])
-    requires refined { RefinesChained linked }
-    requires formula { j < linked.refined.counts.formulas }
-    requires mask { length mask.old ≡ linked.refined.width }
-    ensures { TermsAre linked.entry.refined j mask.new }
+pub fn find_terms(chained: RefinedChained, j: usize, mask: &mut [u32])
+    requires refined { RefinesChained chained }
+    requires formula { j < chained.refined.counts.formulas }
+    requires mask { length mask.old ≡ chained.refined.width }
+    ensures { TermsAre chained.entry.refined j mask.new }
 {
-    let refined = linked.refined;
+    let refined = chained.refined;
     let system = System {
         words: refined.words,
-        first: linked.first,
-        next: linked.next,
+        first: chained.first,
+        next: chained.next,
     };
     let birth = birth_in(refined, j);
     mark_terms(system, refined.rows, refined.width, birth, mask);

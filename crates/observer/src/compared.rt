@@ -10,26 +10,26 @@ use chains::State;
 use formulas::row;
 use lent::has_bit;
 use lines::{Needs, mark, tell};
-use refine::{Linked, first_telling, refine_chained};
+use refine::{RefinedChained, first_telling, refine_chained};
 
 // The words of lent memory that lines are told with: three rows of bits, and a place for each formula.
 const SCRATCH: usize = 8192;
 
 // Tells two states of a refined machine apart, if they differ. The lines are written if they fit.
 fn tell_apart(
-    linked: Linked,
+    chained: RefinedChained,
     s: State,
     t: State,
     scratch: &mut [u32],
     lines: &mut [u32],
 ) -> Compared
-    requires refined { RefinesChained linked }
-    requires one { s.0 < linked.refined.states }
-    requires other { t.0 < linked.refined.states }
+    requires refined { RefinesChained chained }
+    requires one { s.0 < chained.refined.states }
+    requires other { t.0 < chained.refined.states }
     requires scratch { 8192 ≤ length scratch.old }
-    ensures { ApartSays (machine_in linked.entry.refined) s.0 t.0 lines.old lines.new result }
+    ensures { ApartSays (machine_in chained.entry.refined) s.0 t.0 lines.old lines.new result }
 {
-    let refined = linked.refined;
+    let refined = chained.refined;
     let Some(formula) = first_telling(refined, s.0, t.0) else {
         return Compared::Same;
     };
@@ -38,7 +38,7 @@ fn tell_apart(
     let (negated, rest) = rest.split_at_mut(refined.width);
     let (mask, places) = rest.split_at_mut(refined.width);
     let negate = !has_bit(row(refined.rows, refined.width, s.0), formula);
-    let count = mark(linked, formula, negate, needed, negated, mask);
+    let count = mark(chained, formula, negate, needed, negated, mask);
     if lines.len() < 3 * count {
         return Compared::OutFull(depth, count);
     }
@@ -49,7 +49,7 @@ fn tell_apart(
         negated,
         lines: count,
     };
-    tell(linked, needs, mask, places, lines);
+    tell(chained, needs, mask, places, lines);
     Compared::Differ(depth, count)
 }
 
@@ -63,10 +63,10 @@ fn answer<'a>(words: &'a [u32], work: &'a mut [u32], lines: &mut [u32]) -> Compa
         return Compared::NoMachine;
     };
     let (scratch, memory) = work.split_at_mut(SCRATCH);
-    let linked = refine_chained(asked.states as usize, asked.transitions, memory);
+    let chained = refine_chained(asked.states as usize, asked.transitions, memory);
     let first = State(asked.first as usize);
     let second = State(asked.second as usize);
-    tell_apart(linked, first, second, scratch, lines)
+    tell_apart(chained, first, second, scratch, lines)
 }
 
 // Compares the two states of the question that the words encode: *same*, or lines whose last tells them apart, looking as few steps ahead as any formula can.

@@ -8,7 +8,7 @@ use Rattle.theory.specs.Births.{formulas, alike, births}
 use Rattle.theory.specs.Rows.{first, first_formula, TellsLeast}
 use Rattle.chains.specs.System.{machine_of, Chained, Bounded}
 use Rattle.refine.specs.declared.Refined.{Refined}
-use Rattle.refine.specs.declared.Linked.{Linked}
+use Rattle.refine.specs.declared.RefinedChained.{RefinedChained}
 use Rattle.refine.specs.Rounds.{Done}
 
 -- words of a machine that can be asked about: 1 to 4,096 states, at most 16,384 transitions between them
@@ -39,7 +39,7 @@ pub record Refines (r : Refined) : Type 0 where
   pub room : 4 * r.counts.formulas ≤ length r.births.now
 
 -- so it is for the machine that was refined, and its chains stand
-pub record RefinesChained (l : Linked) : Type 0 where
+pub record RefinesChained (l : RefinedChained) : Type 0 where
   pub refines : Refines l.refined
   pub chained : Chained l.refined.words.now l.first.now l.next.now
   pub bounded : Bounded l.refined.states l.refined.words.now l.next.now

@@ -10,7 +10,7 @@ ghost use Rattle.refine.specs.Born.{birth_in};
 ghost use Rattle.refine.specs.Refined.{Askable, Enough, Suffices, Refines, RefinesChained, FirstTelling, Ahead};
 ghost use Rattle.refine.specs.Rounds.{Fixed, Begun, Sofar, Turning, Turned, After, Done};
 
-use chains::{State, System, chain, represent, unmatched_linked};
+use chains::{State, System, chain, represent, unmatched_represented};
 use formulas::{Birth, add_formula, row};
 use lent::{fill, first_difference};
 
@@ -43,10 +43,10 @@ fn next_birth(
     requires other { s.0 < length system.first.now }
     ensures { birth_in result ≡ next_birth (machine_of (length system.entry.first.now) system.entry.words.now) (related old.now) level p.0 s.0 }
 {
-    if let Some(j) = unmatched_linked(system, old, p, s, sets) {
+    if let Some(j) = unmatched_represented(system, old, p, s, sets) {
         return Some(birth_for(system.words, j, level, s.0));
     }
-    match unmatched_linked(system, old, s, p, sets) {
+    match unmatched_represented(system, old, s, p, sets) {
         Some(j) => Some(birth_for(system.words, j, level, p.0)),
         None => None,
     }
@@ -215,7 +215,7 @@ pub struct Refined<'a> {
 
 // A machine that was refined, and its chains: each state's first transition, each transition's next.
 #[derive(Clone, Copy)]
-pub struct Linked<'a> {
+pub struct RefinedChained<'a> {
     pub refined: Refined<'a>,
     pub first: &'a [u32],
     pub next: &'a [u32],
@@ -232,7 +232,11 @@ fn row_width(states: usize, transitions: usize) -> usize
 }
 
 // Parts the states of a machine, in lent words, and keeps its chains: three words for each transition are given.
-pub fn refine_chained<'a>(states: usize, words: &'a [u32], memory: &'a mut [u32]) -> Linked<'a>
+pub fn refine_chained<'a>(
+    states: usize,
+    words: &'a [u32],
+    memory: &'a mut [u32],
+) -> RefinedChained<'a>
     requires askable { Askable states words.now }
     requires enough { Suffices words.now memory.old }
     ensures machine { (result.refined.states ≡ states) × (result.refined.words.now ≡ words.now) }
@@ -262,7 +266,7 @@ pub fn refine_chained<'a>(states: usize, words: &'a [u32], memory: &'a mut [u32]
         births,
         counts,
     };
-    Linked {
+    RefinedChained {
         refined,
         first,
         next,

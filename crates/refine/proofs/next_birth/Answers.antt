@@ -16,10 +16,10 @@ returns-in-Some c =
     ap some (same_birth c.birth_for.result c.args.system.words.now c.in-Some.j c.args.level c.args.s.0 c.birth_for.ensures)
     ∙ sym (next_of_one _ _ c.args.level c.args.p.0 c.args.s.0 _ c.in-Some.ensures.is)
 
-pub returns-in-Some-unmatched_linked : goal.returns-in-Some-unmatched_linked
-returns-in-Some-unmatched_linked c =
-    ap some (same_birth c.birth_for-in-Some-unmatched_linked.result c.args.system.words.now c.in-Some-unmatched_linked.j c.args.level c.args.p.0 c.birth_for-in-Some-unmatched_linked.ensures)
-    ∙ sym (next_of_other _ _ c.args.level c.args.p.0 c.args.s.0 _ c.in_default.ensures c.in-Some-unmatched_linked.ensures.is)
+pub returns-in-Some-unmatched_represented : goal.returns-in-Some-unmatched_represented
+returns-in-Some-unmatched_represented c =
+    ap some (same_birth c.birth_for-in-Some-unmatched_represented.result c.args.system.words.now c.in-Some-unmatched_represented.j c.args.level c.args.p.0 c.birth_for-in-Some-unmatched_represented.ensures)
+    ∙ sym (next_of_other _ _ c.args.level c.args.p.0 c.args.s.0 _ c.in_default.ensures c.in-Some-unmatched_represented.ensures.is)
 
 pub returns-in-None : goal.returns-in-None
 returns-in-None c = sym (next_of_other _ _ c.args.level c.args.p.0 c.args.s.0 _ c.in_default.ensures c.in-None.ensures)

@@ -11,17 +11,17 @@ use Rattle.lines.proofs.Passing.{not_needed, needed_passes}
 use Rattle.lines.proofs.marking.pass_on.Goals as goal
 
 pub returns-then-not-has_bit : goal.returns-then-not-has_bit
-returns-then-not-has_bit c = not_needed c.args.linked.refined c.requires.refined.refines c.args.j c.requires.formula c.args.needed.now c.args.negated.now (sym c.has_bit.ensures ∙ c.if-not-has_bit.true)
+returns-then-not-has_bit c = not_needed c.args.chained.refined c.requires.refined.refines c.args.j c.requires.formula c.args.needed.now c.args.negated.now (sym c.has_bit.ensures ∙ c.if-not-has_bit.true)
 
 pub row-requires : goal.row-requires
 row-requires c =
-    let r = c.args.linked.refined in
+    let r = c.args.chained.refined in
     row_inside _ _ r.rows.now r.width r.leads.now c.birth_in-reach.result.reach c.requires.refined.refines.done.link
     (omega (arith, ap (λ (x : Birth). x.reach) c.birth_in-reach.ensures, reach_below r c.requires.refined.refines c.args.j c.requires.formula))
 
 pub unite_lacking-requires : goal.unite_lacking-requires
 unite_lacking-requires c =
-    let r = c.args.linked.refined in
+    let r = c.args.chained.refined in
     let long = row_length r.rows.now r.states r.width c.birth_in-reach.result.reach c.requires.refined.refines.done.link.long
     (omega (arith, ap (λ (x : Birth). x.reach) c.birth_in-reach.ensures, reach_below r c.requires.refined.refines c.args.j c.requires.formula)) in
     record { words = omega (arith, c.requires.negated, c.requires.mask); row = ap length c.row.ensures ∙ omega (arith, long, c.requires.mask) }
@@ -31,7 +31,7 @@ lines_for-requires c = omega (arith, c.count_bits.ensures, bits_most c.find_term
 
 pub returns : goal.returns
 returns c =
-    let r = c.args.linked.refined in
+    let r = c.args.chained.refined in
     let e = ap (λ (x : Birth). x.reach) c.birth_in-reach.ensures in
     needed_passes r c.requires.refined.refines c.args.j c.requires.formula c.args.needed.now c.args.negated.now c.find_terms.new.mask c.unite.new.words c.unite_lacking.new.words
     c.find_terms.ensures (omega (arith, c.requires.mask)) c.unite.ensures

@@ -7,7 +7,7 @@ use Rattle.lines.proofs.terms.find_terms.Goals as goal
 
 pub mark_terms-requires : goal.mark_terms-requires
 mark_terms-requires c =
-    let k = c.args.linked in
+    let k = c.args.chained in
     let r = k.refined in
     let h = c.requires.refined in
     let e = c.birth_in-birth.ensures in
@@ -24,7 +24,7 @@ mark_terms-requires c =
 
 pub returns : goal.returns
 returns c =
-    let k = c.args.linked in
+    let k = c.args.chained in
     let r = k.refined in
     terms_are k c.requires.refined c.args.j c.requires.formula c.mark_terms.new.mask
     (subst (λ (x : Birth). Terms r.words.now r.rows.now r.width x.label x.reach x.lack (length k.next.now) c.mark_terms.new.mask) c.birth_in-birth.ensures c.mark_terms.ensures)

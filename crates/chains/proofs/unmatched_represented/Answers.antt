@@ -1,6 +1,6 @@
 use Rattle.std.proofs.Common.{length}
 use Rattle.chains.proofs.Matched.{first_unmatched}
-use Rattle.chains.proofs.unmatched_linked.Goals as goal
+use Rattle.chains.proofs.unmatched_represented.Goals as goal
 
 pub returns : goal.returns
 returns c =
