@@ -1,10 +1,11 @@
 -- The pass that adds labels.
-use Rattle.std.proofs.Common.{◌≡◌, ℕ, ◌<◌, Bool, true, false, cond, ◌&&◌, eqb, List, length, get_or, sym, refl, ◌∙◌, inl, inr, arith}
+use Rattle.std.proofs.Common.{subst, ◌≡◌, ℕ, ◌<◌, Bool, true, false, cond, ◌&&◌, eqb, List, length, get_or, sym, refl, ◌∙◌, inl, inr, arith}
+use Rattle.std.specs.Coded.{Coded-set, coded_ℕ}
 use Rattle.std.proofs.lemmas.Bool.{cases_Bool, eq-eqb, cond-true, cond-false, eqb-true, and_parts, and_from}
-use Rattle.chains.specs.System.{label_at, Bounded}
+use Rattle.chains.specs.System.{source_at, label_at, Chained, Bounded}
 use Rattle.chains.specs.Labels.{in_set}
 use Rattle.chains.specs.Matching.{block_at, Represented, Added}
-use Rattle.chains.proofs.Walking.{At, at_skip}
+use Rattle.chains.proofs.Walking.{At, Stepped, at_skip}
 use Rattle.chains.proofs.Skipping.{all_before}
 
 cond_1 : (b : Bool) (n : ℕ) → n ≡ 1 → cond b 1 n ≡ 1
@@ -12,30 +13,45 @@ cond_1 true n e = refl
 cond_1 false n e = e
 
 -- one more label is added
-pub added_next : (ws fs ns old : List ℕ) (n y j : ℕ) (before sets sets' : List ℕ) → Represented ws old fs ns → Bounded n ws ns → j < length ns → At ws (length ns) y j → Added ws old j y before sets
-    → ((b a : ℕ) → a < 64 → in_set sets' b a ≡ cond (eqb b (block_at ws old j) && eqb a (label_at ws j)) 1 (in_set sets b a))
-    → At ws (length ns) y (get_or ns j 0) × Added ws old (get_or ns j 0) y before sets'
-added_next ws fs ns old n y j before sets sets' c d h w k e = (
+pub added_next : (ws fs ns old : List ℕ) (n y at j v b a : ℕ) (before sets sets' : List ℕ) → Represented ws old fs ns → Bounded n ws ns → Stepped ns at j v → b ≡ block_at ws old j → a ≡ label_at ws j
+    → At ws (length ns) y at → Added ws old at y before sets → ((p q : ℕ) → q < 64 → in_set sets' p q ≡ cond (eqb p b && eqb q a) 1 (in_set sets p q)) → At ws (length ns) y v × Added ws old v y before sets'
+added_next ws fs ns old n y at j v b a before sets sets' c d st eb ea w' k' e = subst (λ i. At ws (length ns) y i × Added ws old i y before sets') st.on (
   at_skip ws old fs ns c y j h w,
   record {
-    listed = all_before ws old fs ns (λ q p. in_set sets' p q ≡ 1) y j c h w
+    listed = all_before ws old fs ns (λ q p. in_set sets' p q ≡ 1) (λ q p. Coded-set coded_ℕ (in_set sets' p q) 1) y j c h w
         (λ t r f. e (block_at ws old t) (label_at ws t) (d.label t (omega (arith, r)))
         ∙ cond_1 (eqb (block_at ws old t) b && eqb (label_at ws t) a) (in_set sets (block_at ws old t) (label_at ws t)) (k.listed t r f))
-        (e b a (d.label j h) ∙ cond-true (eqb b b && eqb a a) 1 (in_set sets b a) (and_from (eqb b b) (eqb a a) (eq-eqb b b refl) (eq-eqb a a refl)));
+        (e (block_at ws old j) (label_at ws j) (d.label j h)
+        ∙ cond-true (eqb (block_at ws old j) b && eqb (label_at ws j) a) 1 (in_set sets (block_at ws old j) (label_at ws j))
+        (and_from (eqb (block_at ws old j) b) (eqb (label_at ws j) a) (eq-eqb (block_at ws old j) b (sym eb)) (eq-eqb (label_at ws j) a (sym ea))));
     only = λ p q l z o. elim (cases_Bool (eqb p b && eqb q a)) [
-      | inl r ↦ let (u, v) = and_parts (eqb p b) (eqb q a) r in (j, low, w.here h, sym (eqb-true q a v), sym (eqb-true p b u))
+      | inl r ↦ let (u, x) = and_parts (eqb p b) (eqb q a) r in (j, low, w.here h, sym (eqb-true q a x ∙ ea), sym (eqb-true p b u ∙ eb))
       | inr r ↦
-          let (t, i, s, u, v) = k.only p q l z (sym (cond-false (eqb p b && eqb q a) 1 (in_set sets p q) r) ∙ sym (e p q l) ∙ o) in
-          (t, omega (arith, i, low), s, u, v)
+          let (t, i, s, u, x) = k.only p q l z (sym (cond-false (eqb p b && eqb q a) 1 (in_set sets p q) r) ∙ sym (e p q l) ∙ o) in
+          (t, omega (arith, i, low), s, u, x)
     ];
   },
 )
   where
-    b : ℕ
-    b = block_at ws old j
+    h : j < length ns
+    h = st.within
 
-    a : ℕ
-    a = label_at ws j
+    w : At ws (length ns) y j
+    w = subst (λ i. At ws (length ns) y i) st.was w'
+
+    k : Added ws old j y before sets
+    k = subst (λ i. Added ws old i y before sets) st.was k'
 
     low : j < get_or ns j 0
     low = omega (arith, (c.next j h).low)
+
+-- before the first there is none
+pub added_none : (ws old : List ℕ) (y at : ℕ) (before : List ℕ) → ((t : ℕ) → t < at → source_at ws t ≡ y → ⊥) → Added ws old at y before before
+added_none ws old y at before none = record { listed = λ t l e. absurd (none t l e); only = λ b a l z o. absurd (omega (arith, z, o)) }
+
+-- chains that leave out some have as many links
+pub bounded_by : (n : ℕ) (ws ns ms : List ℕ) {old fs gs : List ℕ} → Chained ws gs ns → Represented ws old fs ms → Bounded n ws ns → Bounded n ws ms
+bounded_by n ws ns ms c r b =
+    let e = c.whole in
+    let f = r.whole in
+    record { source = λ j h. b.source j (omega arith); label = λ j h. b.label j (omega arith); target = λ j h. b.target j (omega arith) }

@@ -2,7 +2,7 @@
 use Rattle.std.proofs.Common.{◌≡◌, ℕ, zero, suc, ◌+◌, ◌*◌, ◌≤◌, List, [], ◌∷◌, length, get_or, refl, ap, ◌∙◌, arith}
 use Rattle.lts.specs.declared.Transition.{Transition}
 use Rattle.lts.specs.Decoding.{transitions_of}
-use Rattle.chains.specs.Matching.{transition_at}
+use Rattle.chains.specs.System.{transition_at}
 
 -- stands past the last
 abbrev pub no_transition : Transition

@@ -1,6 +1,8 @@
 -- The pass that links of a state's transitions the first by each label into each block.
 use Rattle.std.proofs.Common.{◌≡◌, ℕ, suc, ◌<◌, ◌≤◌, cond, ◌&&◌, eqb, List, length, get_or, set, sym, refl, ap, ◌∙◌, subst, inl, inr, arith}
 use Rattle.std.proofs.lemmas.List.{get_or-set_same, get_or-set_other}
+use mathlib.Core.HLevel.{⊥_prop}
+use mathlib.Core.Logic.{∥∥₁_elim, ∥∥₁_map, ∥∥₁_prop}
 use Rattle.std.proofs.lemmas.Bool.{cases_Bool, cases_order, both_ways, eq-eqb, cond-true, cond-false, eqb-true}
 use Rattle.chains.specs.System.{source_at, label_at, Chained, Bounded}
 use Rattle.chains.specs.Labels.{in_set}
@@ -27,7 +29,7 @@ pub firsts_end : (ws old fs : List ℕ) (g s j last : ℕ) (before sets entry sk
 firsts_end ws old fs g s j last before sets entry skips f e i l x k m = elim (cases_order i last) [
   | inl o ↦ absurd (omega (arith, m, ap (λ q. get_or skips q 0) o, f.pending (omega (arith, o, l, e)), e))
   | inr (inl o) ↦ f.done i o x k m
-  | inr (inr o) ↦ let (r, n, x', y, z) = f.covered i (omega (arith, l, e)) x in absurd (k r (omega (arith, n, o)) (x' ∙ sym x) y z)
+  | inr (inr o) ↦ absurd (∥∥₁_elim (f.covered i (omega (arith, l, e)) x) ⊥_prop (λ p. let (r, n, x', y, z) = p in k r (omega (arith, n, o)) (x' ∙ sym x) y z))
 ]
 
 module _ (ws old fs ns entry skips : List ℕ) (s j last : ℕ) (before sets sets' : List ℕ) (c : Chained ws fs ns) (d : Bounded (length fs) ws ns) (h : j < length ns) (z : Emptied ws old (length ns) s before)
@@ -44,16 +46,15 @@ module _ (ws old fs ns entry skips : List ℕ) (s j last : ℕ) (before sets set
   -- those before the next are covered if those before j are, and j is
   covered_more : (i : ℕ) → last ≤ i → (r : ℕ) × (r < suc i) × (source_at ws r ≡ s) × (label_at ws r ≡ a) × (block_at ws old r ≡ b) → Covered ws old s (suc i) v
   covered_more i l (r, k, x, y, w) t m e = elim (before_next ws fs ns s j t c h f.at m e) [
-    | inl o ↦ (r, k, x, y ∙ ap (label_at ws) (sym o), w ∙ ap (block_at ws old) (sym o))
-    | inr o ↦ let (q, n, x', y', w') = f.covered t o e in (q, omega (arith, n, l), x', y', w')
+    | inl o ↦ ∣ (r, k, x, y ∙ ap (label_at ws) (sym o), w ∙ ap (block_at ws old) (sym o)) ∣₁
+    | inr o ↦ ∥∥₁_map (f.covered t o e) (λ p. let (q, n, x', y', w') = p in (q, omega (arith, n, l), x', y', w'))
   ]
 
   -- j is listed: one before it is like it
   covered_listed : in_set sets b a ≡ 1 → Covered ws old s (suc last) v
   covered_listed o =
       let (t, k, x, y, w) = f.added.only b a (d.label j h) (z j h (f.at.here h) a (d.label j h)) o in
-      let (r, l, x', y', w') = f.covered t k x in
-      covered_more last (omega arith) (r, l, x', y' ∙ y, w' ∙ w)
+      λ v i e. ∥∥₁_elim (f.covered t k x) ∥∥₁_prop (λ p. let (r, l, x', y', w') = p in covered_more last (omega arith) (r, l, x', y' ∙ y, w' ∙ w) v i e)
 
   covered_new : Covered ws old s (suc j) v
   covered_new = covered_more j f.low (j, omega arith, f.at.here h, refl, refl)
@@ -69,7 +70,7 @@ module _ (ws old fs ns entry skips : List ℕ) (s j last : ℕ) (before sets set
   done_new o i l x k m = elim (cases_order i last) [
     | inl e ↦ subst (FirstOfKind ws old) (sym (ap (λ q. get_or skips q 0) e ∙ f.pending (omega (arith, e, l)))) (new_kind o)
     | inr (inl e) ↦ f.done i e x k m
-    | inr (inr e) ↦ let (r, n, x', y, w) = f.covered i l x in absurd (k r (omega (arith, n, e)) (x' ∙ sym x) y w)
+    | inr (inr e) ↦ absurd (∥∥₁_elim (f.covered i l x) ⊥_prop (λ p. let (r, n, x', y, w) = p in k r (omega (arith, n, e)) (x' ∙ sym x) y w))
   ]
 
   linked : (i : ℕ) → length skips ≡ length ns → i ≤ j → At ws (length ns) s i → Covered ws old s (suc i) v → Represented ws old fs (set skips i v)
@@ -87,7 +88,7 @@ module _ (ws old fs ns entry skips : List ℕ) (s j last : ℕ) (before sets set
       → ((p : ℕ) → p < i → source_at ws p ≡ s → LeadsOn ws old (length ns) p (get_or skips p 0))
       → ((p q : ℕ) → q < 64 → in_set sets' p q ≡ cond (eqb p b && eqb q a) 1 (in_set sets p q)) → Firsts ws old fs (length ns) s v i before sets' entry (set skips i v)
   goes_on i e l w k dn m =
-      let (x, y) = added_next ws fs ns old (length fs) s j before sets sets' (represented_all ws old fs ns c) d h f.at f.added m in
+      let (x, y) = added_next ws fs ns old (length fs) s j j v b a before sets sets' (represented_all ws old fs ns c) d (record { was = refl; within = h; on = refl }) refl refl f.at f.added m in
       let low = (c.next j h).low in
       let here = w.here (omega (arith, l, h)) in
       record {

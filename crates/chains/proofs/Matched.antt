@@ -8,9 +8,9 @@ use Rattle.theory.specs.Births.{unmatched}
 use Rattle.theory.proofs.Bools.{T-or_not, and_in, and_not_0, and_not_1, is_T}
 use Rattle.theory.proofs.Places.{any_place, place_any, fails_at, first_failing_at, first_failing_none}
 use Rattle.std.proofs.lemmas.Bool.{eq-eqb}
-use Rattle.chains.specs.System.{source_at, label_at, target_at}
+use Rattle.chains.specs.System.{source_at, label_at, target_at, transition_at}
 use Rattle.chains.specs.Labels.{in_set}
-use Rattle.chains.specs.Matching.{transition_at, block_at, related, Emptied, Listed, Added, FirstMissing, FirstUnmatched}
+use Rattle.chains.specs.Matching.{block_at, related, Emptied, Listed, Added, FirstMissing, FirstUnmatched}
 use Rattle.chains.proofs.Decoded.{how_many, at_place}
 
 not_not : (b : Bool) → T b → T (not (not b))

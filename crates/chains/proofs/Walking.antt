@@ -1,6 +1,8 @@
 -- Walking along the chain of a state.
-use Rattle.std.proofs.Common.{◌≡◌, ℕ, suc, ◌<◌, ◌≤◌, ◌⊎◌, List, length, get_or, sym, refl, ◌∙◌, subst, inl, inr, arith}
+use Rattle.std.proofs.Common.{◌≡◌, ℕ, suc, ◌<◌, ◌≤◌, ◌⊎◌, List, length, get_or, sym, refl, ap, ◌∙◌, subst, inl, inr, arith}
 use Rattle.std.proofs.lemmas.Bool.{cases_order, cases_lt}
+use mathlib.Core.HLevel.{⊥_prop}
+use mathlib.Core.Logic.{∥∥₁_elim}
 use Rattle.chains.specs.System.{source_at, NextFrom, Chained}
 use Rattle.chains.specs.Matching.{Covered, SkipsTo, Represented}
 
@@ -28,7 +30,7 @@ skips_none ws old g i s v n = record {
   low = n.low;
   high = n.high;
   here = n.here;
-  covered = λ t l e. elim (cases_lt t i) [ inl h ↦ (t, h, e, refl, refl) | inr h ↦ absurd (n.none t (omega (arith, h)) l e) ];
+  covered = λ t l e. elim (cases_lt t i) [ inl h ↦ ∣ (t, h, e, refl, refl) ∣₁ | inr h ↦ absurd (n.none t (omega (arith, h)) l e) ];
 }
 
 -- chains that leave out nothing
@@ -46,7 +48,7 @@ module _ (ws old fs ns : List ℕ) (c : Represented ws old fs ns) (s : ℕ) wher
 
   -- before it there is none
   pub none_before : s < length fs → (t : ℕ) → t < get_or fs s 0 → source_at ws t ≡ s → ⊥
-  none_before h t l e = let (r, k, _, _, _) = (c.first s h).covered t l e in omega (arith, k)
+  none_before h t l e = ∥∥₁_elim ((c.first s h).covered t l e) ⊥_prop (λ p. let (r, k, _, _, _) = p in omega (arith, k))
 
   module _ (j : ℕ) (h : j < length ns) (w : At ws (length ns) s j) where
     pub at_skip : At ws (length ns) s (get_or ns j 0)
@@ -55,3 +57,20 @@ module _ (ws old fs ns : List ℕ) (c : Represented ws old fs ns) (s : ℕ) wher
     -- those of s before the next are like one of those before j, and j
     pub covered_skip : Covered ws old s (suc j) (get_or ns j 0)
     covered_skip = subst (λ x. Covered ws old x (suc j) (get_or ns j 0)) (w.here h) (c.next j h).covered
+
+-- a walk along the links ns was at j, and is at v now
+pub record Stepped (ns : List ℕ) (at j v : ℕ) : Type 0 where
+  pub was : at ≡ j
+  pub within : j < length ns
+  pub on : get_or ns j 0 ≡ v
+
+pub stepped : (ns links : List ℕ) (at j v : ℕ) → links ≡ ns → j ≡ at → at < length links → v ≡ get_or links at 0 → Stepped ns at j v
+stepped ns links at j v e f h g = record { was = sym f; within = omega (arith, ap length e, f, h); on = ap (λ i. get_or ns i 0) f ∙ sym (ap (λ l. get_or l at 0) e) ∙ sym g }
+
+-- a walk along representatives begins
+pub begun : (ws old fs ns : List ℕ) → Represented ws old fs ns → (s : ℕ) → s < length fs → (at : ℕ) → at ≡ get_or fs s 0 → At ws (length ns) s at × ((t : ℕ) → t < at → source_at ws t ≡ s → ⊥)
+begun ws old fs ns c s h at e = (subst (λ i. At ws (length ns) s i) (sym e) (at_first ws old fs ns c s h), λ t l x. none_before ws old fs ns c s h t (omega (arith, e, l)) x)
+
+-- where a walk along the chain of s was there is a transition of s
+pub of_state : (ws ns : List ℕ) (s at j v : ℕ) → Stepped ns at j v → At ws (length ns) s at → source_at ws j ≡ s
+of_state ws ns s at j v st w = ap (source_at ws) (sym st.was) ∙ w.here (omega (arith, st.was, st.within))

@@ -1,13 +1,9 @@
 -- Which transition of one state another does not match: each into the same block, as an array of blocks says.
 use Rattle.std.specs.Prelude.{◌≡◌, ℕ, suc, ◌*◌, ◌<◌, ◌≤◌, Bool, List, length, Some, None, Option, ◌==◌, ◌≢◌, slice_index}
 use Rattle.std.proofs.Math.Option.{some, none}
-use Rattle.lts.specs.declared.Transition.{Transition}
 use Rattle.theory.specs.Births.{unmatched}
-use Rattle.chains.specs.System.{source_at, label_at, target_at, machine_of, Chained, Bounded}
+use Rattle.chains.specs.System.{source_at, label_at, target_at, transition_at, machine_of}
 use Rattle.chains.specs.Labels.{in_set}
-
-abbrev pub transition_at : List ℕ → ℕ → Transition
-transition_at ws j = record { source = source_at ws j; label = label_at ws j; target = target_at ws j }
 
 -- the block that transition j leads into
 abbrev pub block_at : List ℕ → List ℕ → ℕ → ℕ
@@ -20,7 +16,7 @@ related old u v = slice_index old u == slice_index old v
 -- each transition of s before k has one like it among those of s before i: by the same label into the same block
 abbrev pub Covered : List ℕ → List ℕ → ℕ → ℕ → ℕ → Type 0
 Covered ws old s i k = (t : ℕ) → t < k → source_at ws t ≡ s
-    → (r : ℕ) × (r < i) × (source_at ws r ≡ s) × (label_at ws r ≡ label_at ws t) × (block_at ws old r ≡ block_at ws old t)
+    → ∥ ((r : ℕ) × (r < i) × (source_at ws r ≡ s) × (label_at ws r ≡ label_at ws t) × (block_at ws old r ≡ block_at ws old t)) ∥₁
 
 -- v is a transition of s from i on, or g, how many transitions there are, and those of s before it are like one before i
 pub record SkipsTo (ws old : List ℕ) (g i s v : ℕ) : Type 0 where
@@ -42,22 +38,6 @@ FirstOfKind ws old j = (t : ℕ) → t < j → source_at ws t ≡ source_at ws j
 -- a link to v from transition j of g leads from a first of its kind to another, if not to the end
 abbrev pub LeadsOn : List ℕ → List ℕ → ℕ → ℕ → ℕ → Type 0
 LeadsOn ws old g j v = FirstOfKind ws old j → v < g → FirstOfKind ws old v
-
--- a machine with its chains, a block for each state, and a set of labels for each block
-pub record Ready (ws fs ns old sets : List ℕ) : Type 0 where
-  pub chained : Chained ws fs ns
-  pub bounded : Bounded (length fs) ws ns
-  pub each : length old ≡ length fs
-  pub blocks : (s : ℕ) → s < length fs → slice_index old s < length fs
-  pub room : length sets ≡ 2 * length fs
-
--- a machine with chains of representatives, a block for each state, and a set of labels for each block
-pub record Prepared (ws fs ns old sets : List ℕ) : Type 0 where
-  pub represented : Represented ws old fs ns
-  pub bounded : Bounded (length fs) ws ns
-  pub each : length old ≡ length fs
-  pub blocks : (s : ℕ) → s < length fs → slice_index old s < length fs
-  pub room : length sets ≡ 2 * length fs
 
 -- of the first g transitions those of x lead into blocks with empty sets
 abbrev pub Emptied : List ℕ → List ℕ → ℕ → ℕ → List ℕ → Type 0

@@ -1,5 +1,6 @@
 -- A machine in words: three for each transition, and chains that lead from each transition to the next with the same source.
 use Rattle.std.specs.Prelude.{◌≡◌, ℕ, suc, ◌+◌, ◌*◌, ◌<◌, ◌≤◌, List, length, ◌≢◌, slice_index}
+use Rattle.lts.specs.declared.Transition.{Transition}
 use Rattle.lts.specs.Machine.{Machine}
 use Rattle.lts.specs.Decoding.{transitions_of}
 
@@ -12,6 +13,9 @@ label_at ws j = slice_index ws (3 * j + 1)
 
 abbrev pub target_at : List ℕ → ℕ → ℕ
 target_at ws j = slice_index ws (3 * j + 2)
+
+abbrev pub transition_at : List ℕ → ℕ → Transition
+transition_at ws j = record { source = source_at ws j; label = label_at ws j; target = target_at ws j }
 
 abbrev pub machine_of : ℕ → List ℕ → Machine
 machine_of n ws = record { states = n; transitions = transitions_of ws }

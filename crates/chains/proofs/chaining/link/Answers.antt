@@ -1,6 +1,6 @@
 use Rattle.std.proofs.Common.{◌-◌, arith}
 use Rattle.chains.proofs.Linking.{linked_step}
-use Rattle.chains.proofs.link.Goals as goal
+use Rattle.chains.proofs.chaining.link.Goals as goal
 
 pub loop-j-preserved : goal.loop-j-preserved
 loop-j-preserved c =
