@@ -1,9 +1,8 @@
 -- Laws of the bits of words, and of rows of words.
-use Rattle.std.proofs.Common.{◌≡◌, ℕ, zero, suc, ◌+◌, ◌*◌, ◌/◌, ◌%◌, ◌^◌, ◌<◌, ◌≤◌, min, max, Bool, true, false, cond, eqb, List, length, get_or, set, sym, refl, ap, ◌∙◌, subst, ap₂, inl, inr, pow-suc, arith, get_or-set_other, get_or-set_same, shr-shr}
+use Rattle.std.proofs.Common.{◌≡◌, ℕ, zero, suc, ◌+◌, ◌*◌, ◌/◌, ◌%◌, ◌^◌, ◌<◌, ◌≤◌, min, max, Bool, true, false, cond, eqb, List, length, get_or, set, ◌≢◌, sym, refl, ap, ◌∙◌, subst, ap₂, inl, inr, pow-suc, arith, get_or-set_other, get_or-set_same, shr-shr}
 use native.Mathlib.Nat.{zero-div}
 use borrow.Author.Numbers.{trailing_lt}
-use lib.Arith.{lt-one}
-use lib.Bits.{bit_and, bit_or, bit_xor, and_step, or_step, xor_add_and, and_shr, or_shr, xor_shr, and_mask, and_le_l, and_le_r, xor_lt}
+use lib.Bits.{bit_and, bit_or, bit_xor, and_step, or_step, xor_add_and, and_shr, or_shr, xor_shr, and_le_l, and_le_r, xor_lt}
 use lib.Count.{count_trailing_zeros, under}
 use lib.Dec.{eqb-zero-suc, eqb-suc-zero, eqb-suc-suc}
 use Rattle.std.proofs.lemmas.List.{get_or_past}
@@ -29,10 +28,6 @@ pub bit_next : (n k : ℕ) → bit n (suc k) ≡ bit (n / 2) k
 bit_next n k =
     let e : 1 + k ≡ suc k = omega arith in
     ap (λ (x : ℕ). x % 2) (ap (λ (x : ℕ). n / 2 ^ x) (sym e) ∙ sym (shr-shr n 1 k))
-
--- `(n >> k) & 1`
-pub bit_masked : (n k : ℕ) → bit_and (n / 2 ^ k) 1 ≡ bit n k
-bit_masked n k = and_mask (n / 2 ^ k) 1
 
 -- ---- the bits of `&`, `|` and `^`
 
@@ -92,18 +87,6 @@ max_cond false n h = omega arith
 pub bit_set : (n j k : ℕ) → bit (bit_or n (2 ^ j)) k ≡ cond (eqb k j) 1 (bit n k)
 bit_set n j k =
     bit-bit_or n (2 ^ j) k ∙ ap (λ (x : ℕ). max (bit n k) x) (bit_pow j k) ∙ max_cond (eqb k j) (bit n k) (bit_below n k)
-
--- ---- words with the same bits
-
--- words with the same bits are equal
-pub same_word : (w a b : ℕ) → a < 2 ^ w → b < 2 ^ w → ((k : ℕ) → k < w → bit a k ≡ bit b k) → a ≡ b
-same_word zero a b ha hb h = lt-one ha ∙ sym (lt-one hb)
-same_word (suc w) a b ha hb h =
-    let p = pow-suc 2 w in
-    let low : a % 2 ≡ b % 2 = sym (bit_first a) ∙ h 0 (omega arith) ∙ bit_first b in
-    let high : a / 2 ≡ b / 2 = same_word w (a / 2) (b / 2) (omega arith) (omega arith)
-    (λ k l. sym (bit_next a k) ∙ h (suc k) (omega arith) ∙ bit_next b k) in
-    omega arith
 
 -- ---- the lowest set bit
 
@@ -203,14 +186,14 @@ agree_between xs ys mask from to before after h = agree_words xs ys mask (λ k l
 ])
 
 -- and don't where it isn't of one
-pub agree_not : (xs ys mask : List ℕ) (i : ℕ) → i < length mask → get_or mask i 0 < 2 ^ 32
+pub agree_not : (xs ys mask : List ℕ) (i : ℕ) → i < length mask → get_or xs i 0 < 2 ^ 32 → get_or ys i 0 < 2 ^ 32
     → 0 < bit_and (bit_xor (get_or xs i 0) (get_or ys i 0)) (get_or mask i 0) → Agree xs ys mask → ⊥
-agree_not xs ys mask i l f p h =
+agree_not xs ys mask i l fx fy p h =
     let x : ℕ = get_or xs i 0 in
     let y : ℕ = get_or ys i 0 in
     let m : ℕ = get_or mask i 0 in
     let n : ℕ = bit_and (bit_xor x y) m in
-    let small : n < 2 ^ 32 = omega (arith, and_le_r (bit_xor x y) m) in
+    let small : n < 2 ^ 32 = omega (arith, xor_lt 32 x y fx fy, and_le_l (bit_xor x y) m) in
     let t : ℕ = count_trailing_zeros 32 n in
     let t32 : t < 32 = trailing_lt 32 n p small in
     let one : bit n t ≡ 1 = bit_trailing 32 n p small in
@@ -220,17 +203,32 @@ agree_not xs ys mask i l f p h =
     xor_apart x y t apart
     (sym (bit_at_word xs i t t32) ∙ h (32 * i + t) (omega arith) (bit_at_word mask i t t32 ∙ masked) ∙ bit_at_word ys i t t32)
 
--- the first difference is the lowest bit of `x ^ y`, in the first word where that isn't 0
+-- `x ^ y` of words that differ has a lowest bit
+lowest_apart : (x y : ℕ) → x < 2 ^ 32 → y < 2 ^ 32 → x ≢ y
+    → (0 < bit_xor x y) × (bit_xor x y < 2 ^ 32) × (count_trailing_zeros 32 (bit_xor x y) < 32)
+lowest_apart x y fx fy ne =
+    let p : 0 < bit_xor x y = elim (cases_eq (bit_xor x y) 0) [ inl e ↦ absurd (ne (xor_is_0 x y e)) | inr n ↦ omega arith ] in
+    let small : bit_xor x y < 2 ^ 32 = xor_lt 32 x y fx fy in
+    (p, small, trailing_lt 32 (bit_xor x y) p small)
+
+-- it is within the row
+pub first_within : (xs ys : List ℕ) (i : ℕ) → i < length xs → get_or xs i 0 < 2 ^ 32 → get_or ys i 0 < 2 ^ 32 → get_or xs i 0 ≢ get_or ys i 0
+    → 32 * i + count_trailing_zeros 32 (bit_xor (get_or xs i 0) (get_or ys i 0)) < 32 * length xs
+first_within xs ys i l fx fy ne = omega (arith, (lowest_apart (get_or xs i 0) (get_or ys i 0) fx fy ne).2)
+
+-- the first difference is the lowest bit of `x ^ y`, in the first word where the rows differ
 pub first_in_word : (xs ys : List ℕ) (i : ℕ) → i < length xs → get_or xs i 0 < 2 ^ 32 → get_or ys i 0 < 2 ^ 32
-    → 0 < bit_xor (get_or xs i 0) (get_or ys i 0) → ((k : ℕ) → k < i → get_or xs k 0 ≡ get_or ys k 0)
+    → get_or xs i 0 ≢ get_or ys i 0 → ((k : ℕ) → k < i → get_or xs k 0 ≡ get_or ys k 0)
     → FirstDifference xs ys (32 * i + count_trailing_zeros 32 (bit_xor (get_or xs i 0) (get_or ys i 0)))
-first_in_word xs ys i l fx fy p same =
+first_in_word xs ys i l fx fy ne same =
     let x : ℕ = get_or xs i 0 in
     let y : ℕ = get_or ys i 0 in
     let n : ℕ = bit_xor x y in
-    let small : n < 2 ^ 32 = xor_lt 32 x y fx fy in
+    let low = lowest_apart x y fx fy ne in
     let t : ℕ = count_trailing_zeros 32 n in
-    let t32 : t < 32 = trailing_lt 32 n p small in
+    let p : 0 < n = low.0 in
+    let small : n < 2 ^ 32 = low.1 in
+    let t32 : t < 32 = low.2 in
     record {
       within = omega arith;
       differs = λ _ e. xor_apart x y t (bit_trailing 32 n p small) (sym (bit_at_word xs i t t32) ∙ e ∙ bit_at_word ys i t t32);
@@ -245,14 +243,3 @@ first_in_word xs ys i l fx fy p same =
             subst (λ (j : ℕ). bit_at xs j ≡ bit_at ys j) (sym e) eq
       ];
     }
-
--- where no word differs, it is the number of bits
-pub first_past_end : (xs ys : List ℕ) → ((k : ℕ) → k < length xs → get_or xs k 0 ≡ get_or ys k 0)
-    → FirstDifference xs ys (32 * length xs)
-first_past_end xs ys same =
-    record { within = omega arith; differs = λ h _. absurd (omega arith); before = bit_at_same xs ys (length xs) same }
-
--- and equal rows have no other
-pub first_of_same : (xs ys : List ℕ) (j : ℕ) → ((i : ℕ) → bit_at xs i ≡ bit_at ys i) → FirstDifference xs ys j → j ≡ 32 * length xs
-first_of_same xs ys j same f =
-    elim (cases_lt j (32 * length xs)) [ inl l ↦ absurd (f.differs l (same j)) | inr l ↦ omega (arith, f.within) ]

@@ -1,8 +1,10 @@
 -- Counting bits, and uniting them.
-use Rattle.std.proofs.Common.{◌≡◌, ℕ, zero, suc, ◌+◌, ◌-◌, ◌*◌, ◌/◌, ◌%◌, ◌^◌, ◌<◌, ◌≤◌, min, max, List, length, get_or, sym, refl, ap, ◌∙◌, inl, inr, add-zero, add-suc, pow-suc, arith}
+use Rattle.std.proofs.Common.{◌≡◌, ℕ, zero, suc, ◌+◌, ◌-◌, ◌*◌, ◌/◌, ◌%◌, ◌^◌, ◌<◌, ◌≤◌, min, max, List, length, get_or, take, sum_by, sym, refl, ap, ◌∙◌, inl, inr, add-zero, add-suc, pow-suc, arith}
 use lib.Bits.{bit_and, bit_or, bit_xor}
 use lib.Count.{ones, ones_in, ones_step}
 use Rattle.std.proofs.lemmas.Bool.{cases_lt}
+use Rattle.std.proofs.Math.Seq.{take-length}
+use Rattle.std.proofs.lemmas.List.Sums.{sum_by_more}
 use Rattle.lent.specs.Bits.{bit, bit_at, bits_set}
 use Rattle.lent.proofs.Bits.{bit_first, bit_next, bit-bit_and, bit-bit_or, bit-bit_xor, bit_at_word, bit_at_past}
 
@@ -30,16 +32,32 @@ bits_up ws i zero h = ap (bits_set ws) (add-zero (32 * i)) ∙ omega arith
 bits_up ws i (suc k) h = ap (bits_set ws) (add-suc (32 * i) k) ∙ omega (arith, bits_up ws i k (omega arith), bit_at_word ws i k (omega arith))
 
 -- one word more is counted
-pub count_more : (ws : List ℕ) (i c : ℕ) → get_or ws i 0 < 2 ^ 32 → c ≡ bits_set ws (32 * i) → c + ones (get_or ws i 0) ≡ bits_set ws (32 * (i + 1))
+count_more : (ws : List ℕ) (i c : ℕ) → get_or ws i 0 < 2 ^ 32 → c ≡ bits_set ws (32 * i) → c + ones (get_or ws i 0) ≡ bits_set ws (32 * (i + 1))
 count_more ws i c h e =
     let n : 32 * (i + 1) ≡ 32 * i + 32 = omega arith in
     let up : bits_set ws (32 * (i + 1)) ≡ bits_in (get_or ws i 0) 32 + bits_set ws (32 * i) = ap (bits_set ws) n ∙ bits_up ws i 32 (omega arith) in
     omega (arith, ones_bits 32 (get_or ws i 0) h)
 
+-- so are all the words up to word n
+counted_up : (ws : List ℕ) → ((k : ℕ) → get_or ws k 0 < 2 ^ 32) → (n : ℕ) → n ≤ length ws → sum_by ones (take n ws) ≡ bits_set ws (32 * n)
+counted_up ws fits zero h = refl
+counted_up ws fits (suc n) h =
+    let e : suc n ≡ n + 1 = omega arith in
+    ap (λ m. sum_by ones (take m ws)) e ∙ sum_by_more ones ws n 0 (omega arith)
+    ∙ count_more ws n (sum_by ones (take n ws)) (fits n) (counted_up ws fits n (omega arith)) ∙ ap (λ m. bits_set ws (32 * m)) (sym e)
+
+-- and all words
+pub counted : (ws : List ℕ) → ((k : ℕ) → get_or ws k 0 < 2 ^ 32) → sum_by ones ws ≡ bits_set ws (32 * length ws)
+counted ws fits = ap (sum_by ones) (sym (take-length ws)) ∙ counted_up ws fits (length ws) (omega arith)
+
 -- no more bits are set than there are
 pub bits_most : (ws : List ℕ) (n : ℕ) → bits_set ws n ≤ n
 bits_most ws zero = omega arith
 bits_most ws (suc n) = omega (arith, bits_most ws n)
+
+-- so their number fits
+pub counted_fits : (ws : List ℕ) → ((k : ℕ) → get_or ws k 0 < 2 ^ 32) → 32 * length ws < 2 ^ 64 → sum_by ones ws < 2 ^ 64
+counted_fits ws fits h = omega (arith, counted ws fits, bits_most ws (32 * length ws))
 
 -- `a | m & (m ^ r)`
 pub lacking_bit : (a m r k : ℕ) → bit (bit_or a (bit_and m (bit_xor m r))) k ≡ max (bit a k) (min (bit m k) (1 - bit r k))

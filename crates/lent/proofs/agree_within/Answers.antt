@@ -1,19 +1,15 @@
-use Rattle.std.proofs.Common.{refl, arith}
-use Rattle.std.proofs.lemmas.Bool.{false≢true}
+use Rattle.std.proofs.Common.{ℕ, ◌<◌, ◌≤◌, get_or, rules, arith}
+use Rattle.std.proofs.lemmas.Bool.{true_from_ne_false}
+use Rattle.std.proofs.iter.runs.Sources.{ranges}
+use lib.Bits.{bit_and, bit_xor}
 use Rattle.lent.proofs.Bits.{agree_between, agree_not}
 use Rattle.lent.proofs.agree_within.Goals as goal
 
--- a word with a difference under the mask
-pub returns-then-xs-i-ne0 : goal.returns-then-xs-i-ne0
-returns-then-xs-i-ne0 c = (
-  λ e. absurd (false≢true e),
-  λ h. absurd (agree_not c.args.xs.now c.args.ys.now c.args.mask.now c.loop-i.i
-      (omega arith) (omega (arith, c.type_inv.mask c.loop-i.i)) (omega arith) h),
-)
-
--- none of the words has
 pub returns : goal.returns
 returns c = (
-  λ _. agree_between c.args.xs.now c.args.ys.now c.args.mask.now c.args.from c.args.to c.requires.before c.requires.after (λ k p q. c.loop-i.invariant k p (omega arith)),
-  λ _. refl,
+  λ e. agree_between c.args.xs.now c.args.ys.now c.args.mask.words.now c.args.mask.from c.args.mask.to c.args.mask.before c.args.mask.after (search (rules, ranges)),
+  λ h. true_from_ne_false c.all.result (λ e.
+      let some : (k : ℕ) × (c.args.mask.from ≤ k) × (k < c.args.mask.to) × (0 < bit_and (bit_xor (get_or c.args.xs.now k 0) (get_or c.args.ys.now k 0)) (get_or c.args.mask.words.now k 0)) = search (rules, ranges) in
+      agree_not c.args.xs.now c.args.ys.now c.args.mask.words.now some.0
+      (omega (arith, c.args.mask.within)) (omega (arith, c.type_inv.xs some.0)) (omega (arith, c.type_inv.ys some.0)) some.3 h),
 )
