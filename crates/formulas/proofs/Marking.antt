@@ -3,9 +3,9 @@ use Rattle.std.proofs.Common.{◌≡◌, ℕ, ◌+◌, ◌*◌, ◌<◌, cond, �
 use Rattle.std.proofs.lemmas.Bool.{cases_eq, cases_Bool, and_parts, and_from, eq-eqb, ne_eqb, eqb-true, cond-true, cond-false, both_ways}
 use Rattle.lent.specs.Bits.{bit_at, FirstDifference}
 use Rattle.chains.specs.System.{source_at, label_at, target_at, Chained}
-use Rattle.chains.proofs.Walking.{At, before_next}
+use Rattle.chains.proofs.Walking.{At, Stepped, at_next, before_next}
 use Rattle.formulas.specs.Link.{row_of}
-use Rattle.formulas.specs.Marks.{Tells, Enters, Holding, TermAt, Terms, TermMarked, Differing}
+use Rattle.formulas.specs.Marks.{Tells, Enters, Holding, TermAt, Terms, TermMarked}
 use Rattle.formulas.proofs.Slices.{set_here, set_else, below_or}
 
 -- what tells P tells what is as much
@@ -60,14 +60,6 @@ first_one xs ys i j p q h =
     let down : i < j → ⊥ = λ l. p.differs h (q.before i l) in
     omega arith
 
--- a difference below the end is where the first lies or after it
-pub first_within : (rows xs ys : List ℕ) (w u v p : ℕ) → length (row_of rows w u) ≡ w → xs ≡ row_of rows w u → ys ≡ row_of rows w v → Differing rows w u v → FirstDifference xs ys p
-    → (p < 32 * w) × FirstDifference (row_of rows w u) (row_of rows w v) p
-first_within rows xs ys w u v p l e f (i, h, d) g =
-    let r = subst (λ z. FirstDifference (row_of rows w u) z p) f (subst (λ z. FirstDifference z ys p) e g) in
-    let up : i < p → ⊥ = λ o. d (r.before i o) in
-    (omega arith, r)
-
 -- transition j of y is by a: its bit is in the mask now
 terms_marked : (ws fs ns rows : List ℕ) (w a u y j p : ℕ) (before after : List ℕ) → Chained ws fs ns → j < length ns → At ws (length ns) y j → length (row_of rows w u) ≡ w
     → label_at ws j ≡ a → p < 32 * w → FirstDifference (row_of rows w u) (row_of rows w (target_at ws j)) p → ((q : ℕ) → bit_at after q ≡ cond (eqb q p) 1 (bit_at before q))
@@ -101,13 +93,19 @@ terms_stay ws fs ns rows w a u y j mask c h at e ts q =
     ]) (ts q)
 
 -- the step of the loop that marks terms
-pub terms_next : (ws fs ns rows : List ℕ) (w a u y j : ℕ) (before after : List ℕ) → Chained ws fs ns → j < length ns → At ws (length ns) y j → length (row_of rows w u) ≡ w
-    → Terms ws rows w a u y j before → TermMarked ws rows w a u j before after → Terms ws rows w a u y (get_or ns j 0) after
-terms_next ws fs ns rows w a u y j before after c h at l ts m = elim (cases_eq (label_at ws j) a) [
-  | inl e ↦ let (p, hp, d, b) = m.marked e in terms_marked ws fs ns rows w a u y j p before after c h at l e hp d b ts
-  | inr e ↦ subst (Terms ws rows w a u y (get_or ns j 0)) (sym (m.other e)) (terms_stay ws fs ns rows w a u y j before c h at e ts)
-]
+pub terms_next : (ws fs ns rows : List ℕ) (w a u y at j v : ℕ) (before after : List ℕ) → Chained ws fs ns → Stepped ns at j v → At ws (length ns) y at → length (row_of rows w u) ≡ w
+    → Terms ws rows w a u y at before → TermMarked ws rows w a u j before after → At ws (length ns) y v × Terms ws rows w a u y v after
+terms_next ws fs ns rows w a u y at j v before after c st at' l ts' m =
+    subst (λ i. At ws (length ns) y i × Terms ws rows w a u y i after) st.on (
+      at_next ws fs ns y j c st.within here,
+      elim (cases_eq (label_at ws j) a) [
+        | inl e ↦ let (p, hp, d, b) = m.marked e in terms_marked ws fs ns rows w a u y j p before after c st.within here l e hp d b ts
+        | inr e ↦ subst (Terms ws rows w a u y (get_or ns j 0)) (sym (m.other e)) (terms_stay ws fs ns rows w a u y j before c st.within here e ts)
+      ],
+    )
+  where
+    here : At ws (length ns) y j
+    here = subst (λ i. At ws (length ns) y i) st.was at'
 
--- before the first transition of y there is no term
-pub terms_none : (ws fs ns rows : List ℕ) (w a u y : ℕ) (mask : List ℕ) → Chained ws fs ns → y < length fs → ((q : ℕ) → bit_at mask q ≡ 0) → Terms ws rows w a u y (get_or fs y 0) mask
-terms_none ws fs ns rows w a u y mask c h z q = inr (z q, λ t. (c.first y h).none t.place (omega arith) t.below t.source)
+    ts : Terms ws rows w a u y j before
+    ts = subst (λ i. Terms ws rows w a u y i before) st.was ts'

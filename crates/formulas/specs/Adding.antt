@@ -1,6 +1,6 @@
 -- The birth of the formula that is added.
 use Rattle.theory.specs.Births.{Birth}
-use Rattle.formulas.specs.declared.Birth.{Birth as Given}
+use Rattle.formulas.specs.declared.birth.Birth.{Birth as Given}
 
 -- as the theory has it
 abbrev pub birth_of : Given → Birth

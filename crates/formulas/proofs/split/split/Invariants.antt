@@ -1,5 +1,5 @@
 use Rattle.formulas.specs.Splits.{Led, Parted}
-use Rattle.formulas.proofs.split.Given as goal
+use Rattle.formulas.proofs.split.split.Given as goal
 
 -- the states below t have their leaders, and the parts so far stand
 abbrev pub invariant-loop-t : goal.invariant-loop-t

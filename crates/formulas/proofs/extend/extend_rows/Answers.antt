@@ -1,6 +1,6 @@
 use Rattle.std.proofs.Common.{length, arith}
 use Rattle.formulas.proofs.Extending.{row_end, extended_more}
-use Rattle.formulas.proofs.extend_rows.Goals as goal
+use Rattle.formulas.proofs.extend.extend_rows.Goals as goal
 
 pub extend_row-requires : goal.extend_row-requires
 extend_row-requires c =

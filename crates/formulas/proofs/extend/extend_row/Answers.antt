@@ -1,6 +1,6 @@
 use Rattle.std.proofs.Common.{◌+◌, ◌-◌, ◌*◌, refl, ◌∙◌}
 use Rattle.formulas.proofs.Extending.{row_set, part_long}
-use Rattle.formulas.proofs.extend_row.Goals as goal
+use Rattle.formulas.proofs.extend.extend_row.Goals as goal
 
 pub returns-then-holds-s-eq1 : goal.returns-then-holds-s-eq1
 returns-then-holds-s-eq1 c =

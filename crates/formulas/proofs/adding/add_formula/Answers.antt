@@ -4,7 +4,7 @@ use Rattle.chains.specs.System.{target_at}
 use Rattle.formulas.specs.Adding.{birth_of}
 use Rattle.formulas.specs.Link.{births_of}
 use Rattle.formulas.proofs.Linking.{adding, rows_differ, leads_within, link_added}
-use Rattle.formulas.proofs.add_formula.Goals as goal
+use Rattle.formulas.proofs.adding.add_formula.Goals as goal
 
 pub evaluate-requires : goal.evaluate-requires
 evaluate-requires c =
@@ -13,18 +13,14 @@ evaluate-requires c =
     let ns = c.args.system.next.now in
     let b : Birth = birth_of c.args.birth in
     let a = adding ws fs ns c.args.rows.now c.args.leads.now (births_of c.args.births.now c.args.count) b c.args.w
-    c.requires.chained c.requires.bounded c.requires.reach c.requires.lacks c.requires.link in
+    c.args.system.chained c.args.system.bounded c.requires.reach c.requires.lacks c.requires.link in
     record {
-      chained = c.requires.chained;
-      bounded = c.requires.bounded;
-      rows = c.requires.link.long;
       reach = c.requires.reach;
       lack = c.requires.lack;
       mask = omega arith;
       agree = omega arith;
       holds = omega arith;
-      fits = c.requires.fits;
-      differing = λ j h x y. rows_differ c.requires.link b.reach (target_at ws j) c.requires.reach (c.requires.bounded.target j h) (a.lacks j h x y);
+      differing = λ j h x y. rows_differ c.requires.link b.reach (target_at ws j) c.requires.reach (c.args.system.bounded.target j h) (a.lacks j h x y);
     }
 
 pub split-requires : goal.split-requires
@@ -38,9 +34,9 @@ returns c =
     let fs = c.args.system.first.now in
     let ns = c.args.system.next.now in
     let a = adding ws fs ns c.args.rows.now c.args.leads.now (births_of c.args.births.now c.args.count) (birth_of c.args.birth) c.args.w
-    c.requires.chained c.requires.bounded c.requires.reach c.requires.lacks c.requires.link in
+    c.args.system.chained c.args.system.bounded c.requires.reach c.requires.lacks c.requires.link in
     record {
-      births = c.write_birth.ensures;
+      births = c.write.ensures;
       link = link_added ws fs ns c.args.rows.now c.args.leads.now c.args.births.now c.evaluate.new.holds c.extend_rows.new.rows c.split.new.leads
           c.args.w c.args.count (birth_of c.args.birth) a c.requires.room (omega arith) (omega arith) (omega arith) c.evaluate.ensures c.extend_rows.ensures c.split.ensures;
     }

@@ -1,5 +1,5 @@
 use Rattle.formulas.specs.Marks.{Extended}
-use Rattle.formulas.proofs.extend_rows.Given as goal
+use Rattle.formulas.proofs.extend.extend_rows.Given as goal
 
 -- the rows of the states below s are extended
 abbrev pub invariant-loop-s : goal.invariant-loop-s
