@@ -62,6 +62,7 @@ pub fn represent<'a>(
         links: system.next,
     };
     links.copy_from_slice(system.next);
+    // Kept: the index. It is the state that is gone through, and no slice is read by it here.
     for s in 0..system.first.len() {
         all.empty_sets(State(s), sets);
         link_firsts(all, State(s), sets, links);

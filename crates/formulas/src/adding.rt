@@ -13,6 +13,7 @@ use crate::split::split;
 use chains::System;
 
 // Adds the formula of a birth: each row gets its answer, blocks that it parts are split, and the birth is kept.
+// Kept: rows, leaders and births as parameters. In a struct of `&mut` a proof loses what the words were once they are lent as shared out of it.
 pub fn add_formula(
     system: System,
     birth: Birth,

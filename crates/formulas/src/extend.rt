@@ -20,6 +20,7 @@ pub fn extend_rows(rows: &mut [u32], w: usize, holds: &[u32], position: usize)
     requires position { position < 32 * w }
     ensures { Extended rows.old holds.now w position (length holds.now) rows.new }
 {
+    // Kept: the index, since a rule of the project has parts of the lent words that start in their middle written here.
     for s in 0..holds.len() {
         extend_row(rows, w, holds, position, s);
     }

@@ -23,6 +23,7 @@ pub fn mark_holding(system: System, label: u32, agree: &[u32], holds: &mut [u32]
     ensures { Holding system.entry.words.now agree.now label (length system.entry.next.now) holds.new }
 {
     lent::fill(holds, 0);
+    // Kept: the index. It is what names a transition, and no slice is read by it here.
     for j in 0..system.next.len() {
         mark_source(system.transition(j), label, agree, holds);
     }

@@ -3,6 +3,7 @@ ghost use Rattle.std.specs.Prelude.{◌≡◌, ℕ, ◌^◌, ◌<◌, length, sl
 ghost use Rattle.formulas.specs.Splits.{Led, Moved, part_with};
 
 // The first state of the part that breaks off from `leader`'s block, once `state` has. None is `unset`.
+// Kept: a number for none, since lent words hold numbers.
 fn part_of(parts: &mut [u32], leader: usize, state: u32, unset: u32) -> u32
     requires { leader < length parts.old }
     ensures first { result ≡ part_with parts.old unset leader state }
@@ -42,6 +43,7 @@ pub fn split(leads: &mut [u32], holds: &[u32], parts: &mut [u32])
     ensures { Led leads.old holds.now (length leads.old) leads.new }
 {
     lent::fill(parts, leads.len() as u32);
+    // Kept: the index, since a state's leader is another of the words that are written.
     for t in 0..leads.len() {
         move_state(leads, holds, parts, t);
     }
