@@ -8,12 +8,12 @@ use Rattle.theory.specs.Births.{Birth, alike, next_birth, rounds}
 use Rattle.theory.proofs.Growth.{Settled, rounds_settled}
 use Rattle.theory.proofs.Leaders.{leader_le}
 use Rattle.theory.proofs.Settling.{Added}
-use Rattle.chains.specs.Matching.{related, Represented, Prepared}
+use Rattle.chains.specs.Matching.{related}
 use Rattle.chains.specs.System.{machine_of}
 use Rattle.chains.proofs.Decoded.{how_many}
 use Rattle.formulas.specs.Link.{births_of, Link}
 use Rattle.refine.specs.Rounds.{Fixed, Begun, Sofar, Turning, TurnedOn}
-use Rattle.refine.proofs.Facts.{bounded_by, closed_of, next_is, length_births}
+use Rattle.refine.proofs.Facts.{closed_of, next_is, length_births}
 use Rattle.refine.proofs.Turning.{turn_adds, turn_goes_on, turn_ends}
 
 module _ (ws fs ns : List ℕ) (w k : ℕ) (old : List ℕ) (s : ℕ) (bw : List ℕ) (count : ℕ) (rows leads : List ℕ)
@@ -33,15 +33,6 @@ module _ (ws fs ns : List ℕ) (w k : ℕ) (old : List ℕ) (s : ℕ) (bw : List
 
   pub lead_below : get_or leads s 0 < length fs
   lead_below = omega (arith, link.leaders s hs, leader_le (alike m bs) s)
-
-  pub ready : (skips sets : List ℕ) → Represented ws old fs skips → length sets ≡ 2 * length fs → Prepared ws fs skips old sets
-  ready skips sets r e = record {
-    represented = r;
-    bounded = bounded_by (length fs) ws ns skips (omega (arith, r.whole, fixed.chained.whole)) fixed.bounded;
-    each = begun.each;
-    blocks = λ t h. omega (arith, begun.leaders t h, leader_le (alike m (rounds m k)) t);
-    room = e;
-  }
 
   -- what was found is what the theory finds
   found : (r : Option Birth) → r ≡ next_birth m (related old) (k + 1) (get_or leads s 0) s → next_birth m (alike m (rounds m k)) (suc k) (leader (alike m bs) s) s ≡ r

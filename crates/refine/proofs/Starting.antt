@@ -9,8 +9,7 @@ use Rattle.theory.specs.Blocks.{least}
 use Rattle.theory.specs.Births.{rounds}
 use Rattle.theory.proofs.Bools.{and_0, and_1}
 use Rattle.lent.proofs.Bits.{bit_at_zeros}
-use Rattle.chains.specs.Matching.{transition_at}
-use Rattle.chains.specs.System.{source_at, label_at, target_at, Bounded}
+use Rattle.chains.specs.System.{source_at, label_at, target_at, transition_at, Bounded}
 use Rattle.chains.proofs.Decoded.{no_transition, how_many, at_place}
 use Rattle.formulas.specs.Link.{row_of}
 use Rattle.refine.specs.Rounds.{After}

@@ -15,7 +15,7 @@ use Rattle.theory.proofs.Ending.{alike_bisimilar}
 use Rattle.lent.specs.Bits.{FirstDifference}
 use Rattle.formulas.specs.Link.{birth_at, births_of, row_of, Link}
 use Rattle.chains.specs.System.{machine_of}
-use Rattle.refine.specs.Refined.{Askable}
+use Rattle.refine.specs.Askable.{Askable}
 use Rattle.refine.proofs.Facts.{length_births, closed_of}
 use Rattle.refine.proofs.Starting.{bounded_of}
 use Rattle.formulas.proofs.Extending.{row_end}

@@ -2,7 +2,7 @@
 use Rattle.std.proofs.Math.Option as theory
 use Rattle.std.specs.Prelude.{Some, None, Option}
 use Rattle.theory.specs.Births as births
-use Rattle.formulas.specs.declared.Birth.{Birth}
+use Rattle.formulas.specs.declared.birth.Birth.{Birth}
 
 abbrev pub birth_of : Birth → births.Birth
 birth_of b = record { level = b.level; label = b.label; reach = b.reach; lack = b.lack }

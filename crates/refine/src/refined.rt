@@ -1,0 +1,27 @@
+// Machines that were refined.
+ghost use Rattle.std.specs.Prelude.{ℕ, ◌*◌, ◌≤◌, length};
+ghost use Rattle.chains.specs.System.{machine_of};
+ghost use Rattle.refine.specs.Askable.{Askable};
+ghost use Rattle.refine.specs.Rounds.{Done};
+
+use formulas::Answers;
+
+// How many formulas there are, and how many rounds added them.
+#[derive(Clone, Copy)]
+pub struct Counts {
+    pub formulas: usize,
+    pub rounds: u32,
+}
+
+// A machine that was refined: for each state its answers to the formulas and its leader; and the births of the formulas, four words each.
+#[derive(Clone, Copy)]
+pub struct Refined<'a> {
+    pub answers: Answers<'a>,
+    pub leads: &'a [u32],
+    pub births: &'a [u32],
+    pub counts: Counts,
+    ghost askable: { Askable (length answers.system.first.now) answers.system.words.now },
+    ghost done: { Done (machine_of (length answers.system.first.now) answers.system.words.now) counts.rounds answers.width births.now counts.formulas answers.rows.now leads.now },
+    ghost narrow: { answers.width ≤ 128 },
+    ghost room: { 4 * counts.formulas ≤ length births.now },
+}
