@@ -10,8 +10,8 @@ use Rattle.theory.proofs.Told.{tell_few}
 use Rattle.theory.proofs.Sizes.{told_size, demands_here}
 use Rattle.formulas.specs.Link.{birth_at, births_of}
 use Rattle.formulas.proofs.Linking.{births_length}
-use Rattle.refine.specs.declared.Refined.{Refined}
-use Rattle.refine.specs.Refined.{Refines, machine_in}
+use Rattle.refine.specs.declared.refined.Refined.{Refined}
+use Rattle.refine.specs.Refined.{machine_in}
 use Rattle.refine.proofs.Telling.{closed_in}
 use Rattle.lines.specs.Terms.{has_term}
 use Rattle.lines.specs.Marked.{Demanded, Passes, wanted_in, Marking, Marked}
@@ -32,27 +32,27 @@ unfolding tell
 tell_none m d = refl
 
 -- how many lines there can be
-pub tell_fits : (r : Refined) → Refines r → (d : Demands) → length (tell (machine_in r) d (births (machine_in r))).lines ≤ 16777217
-tell_fits r h d =
+pub tell_fits : (r : Refined) → (d : Demands) → length (tell (machine_in r) d (births (machine_in r))).lines ≤ 16777217
+tell_fits r d =
     let m = machine_in r in
-    let closed = closed_in r.states r.words.now h.askable in
+    let closed = closed_in (length r.answers.system.first.now) r.answers.system.words.now r.askable in
     let l = births_below_states m m.states (births m) (rounds_settled m closed m.states).born in
-    let up = mul-le-mul {n₁ = length (births m)} {m₁ = suc (length (births m))} {n₂ = 4095} {m₂ = 4096} (omega (arith, h.askable.few)) (omega (arith, h.askable.few)) in
+    let up = mul-le-mul {n₁ = length (births m)} {m₁ = suc (length (births m))} {n₂ = 4095} {m₂ = 4096} (omega (arith, r.askable.few)) (omega (arith, r.askable.few)) in
     omega (arith, tell_few m d (births m))
 
-module _ (r : Refined) (h : Refines r) (j : ℕ) (n : Bool) where
+module _ (r : Refined) (j : ℕ) (n : Bool) where
   abbrev m : Machine
   m = machine_in r
 
   abbrev all : Demands
   all = wanted_in r j n
 
-  pub starts : (needed negated : List ℕ) → Demanded (demand_one j n) r.width needed negated → Marking r all r.counts.formulas needed negated 1
+  pub starts : (needed negated : List ℕ) → Demanded (demand_one j n) r.answers.width needed negated → Marking r all r.counts.formulas needed negated 1
   starts needed negated k = record {
     d = demand_one j n;
-    rest = ap (λ (bs : List Birth). demands m bs (demand_one j n)) (sym h.done.born);
+    rest = ap (λ (bs : List Birth). demands m bs (demand_one j n)) (sym r.done.born);
     bits = k;
-    size = omega (arith, ap (λ (bs : List Birth). length (tell m all bs).lines) h.done.born);
+    size = omega (arith, ap (λ (bs : List Birth). length (tell m all bs).lines) r.done.born);
   }
 
   next : (i : ℕ) → i < r.counts.formulas → (needed negated needed' negated' : List ℕ) (lines more : ℕ) → Marking r all (suc i) needed negated lines → Passes r i needed negated needed' negated' more
@@ -66,7 +66,7 @@ module _ (r : Refined) (h : Refines r) (j : ℕ) (n : Bool) where
       let negate : all.negated (length bs) ≡ k.d.negated i = ap (λ (x : Demands). x.negated (length bs)) k.rest ∙ demands_here false m b bs k.d ∙ ap k.d.negated old in
       let same : cond (all.need (length bs)) (lines_for (count (has_term r i) (length bs)) (all.negated (length bs))) 0 ≡ cond (k.d.need i) (lines_for (count (has_term r i) i) (k.d.negated i)) 0 =
       ap₂ (λ (c : Bool) (x : ℕ). cond c x 0) need (ap₂ lines_for (ap (count (has_term r i)) old) negate) in
-      let size = told_size m (demand_one j n) b bs (in_births r h i l) in
+      let size = told_size m (demand_one j n) b bs (in_births r i l) in
       record {
         d = passed_on m b bs k.d;
         rest = k.rest ∙ demands_next m b bs k.d;
@@ -83,10 +83,10 @@ module _ (r : Refined) (h : Refines r) (j : ℕ) (n : Bool) where
 
   pub ends : (needed negated : List ℕ) (lines : ℕ) → Marking r all 0 needed negated lines → Marked r all needed negated lines
   ends needed negated lines k = record {
-    bits = subst (λ (x : Demands). Demanded x r.width needed negated) (sym (k.rest ∙ demands_none m k.d)) k.bits;
+    bits = subst (λ (x : Demands). Demanded x r.answers.width needed negated) (sym (k.rest ∙ demands_none m k.d)) k.bits;
     size = omega (arith, k.size, tell_none m all);
   }
 
   -- never more than all of them
   pub few : (i : ℕ) (needed negated : List ℕ) (lines : ℕ) → Marking r all i needed negated lines → lines ≤ 16777218
-  few i needed negated lines k = omega (arith, k.size, tell_fits r h all)
+  few i needed negated lines k = omega (arith, k.size, tell_fits r all)

@@ -15,8 +15,8 @@ use Rattle.theory.proofs.Sizes.{tell_grows}
 use Rattle.lent.specs.Bits.{bit_at}
 use Rattle.formulas.specs.Link.{birth_at, births_of, row_of}
 use Rattle.formulas.proofs.Linking.{births_length}
-use Rattle.refine.specs.declared.Refined.{Refined}
-use Rattle.refine.specs.Refined.{Refines, machine_in}
+use Rattle.refine.specs.declared.refined.Refined.{Refined}
+use Rattle.refine.specs.Refined.{machine_in}
 use Rattle.lines.specs.Terms.{has_term, older, TermsAre}
 use Rattle.lines.specs.Marked.{wanted_in, lines_up_to, Marked}
 use Rattle.lines.specs.Joins.{Appends, body_by, BodyIs}
@@ -48,7 +48,7 @@ from_none (b ∷ bs) = grown (from_none bs)
 pub some_line : (m : Machine) (d : Demands) (bs : List Birth) → 1 ≤ length (tell m d bs).lines
 some_line m d bs = omega (arith, tell_grows m d (from_none bs), tell_none m d)
 
-module _ (r : Refined) (h : Refines r) (f : ℕ) (n : Bool) (needed negated : List ℕ) (total : ℕ) (k : Marked r (wanted_in r f n) needed negated total) (j : ℕ) (l : j < r.counts.formulas) where
+module _ (r : Refined) (f : ℕ) (n : Bool) (needed negated : List ℕ) (total : ℕ) (k : Marked r (wanted_in r f n) needed negated total) (j : ℕ) (l : j < r.counts.formulas) where
   abbrev m : Machine
   m = machine_in r
 
@@ -68,10 +68,10 @@ module _ (r : Refined) (h : Refines r) (f : ℕ) (n : Bool) (needed negated : Li
   old = births_length r.births.now j
 
   need_bit : eqb (bit_at needed j) 1 ≡ d.need (length bs)
-  need_bit = ap (λ z. eqb z 1) (k.bits.need j (within r h j l)) ∙ bit_back (d.need j) ∙ sym (ap d.need old)
+  need_bit = ap (λ z. eqb z 1) (k.bits.need j (within r j l)) ∙ bit_back (d.need j) ∙ sym (ap d.need old)
 
   negate_bit : eqb (bit_at negated j) 1 ≡ d.negated (length bs)
-  negate_bit = ap (λ z. eqb z 1) (k.bits.negate j (within r h j l)) ∙ bit_back (d.negated j) ∙ sym (ap d.negated old)
+  negate_bit = ap (λ z. eqb z 1) (k.bits.negate j (within r j l)) ∙ bit_back (d.negated j) ∙ sym (ap d.negated old)
 
   -- formula j is not needed
   pub passed_over : (places lines : List ℕ) (next : ℕ) → eqb (bit_at needed j) 1 ≡ false → next ≡ lines_up_to r d j → Placed r d j places → ToldOn r d j lines next places lines
@@ -88,7 +88,7 @@ module _ (r : Refined) (h : Refines r) (f : ℕ) (n : Bool) (needed negated : Li
       }
 
   x_stands : Stands m d bs x (all_said m d bs)
-  x_stands = stands m d (λ c cs g w o i t. demanded o m (demand_one f n) c cs g w i t) bs (extends_rest (in_births r h j l))
+  x_stands = stands m d (λ c cs g w o i t. demanded o m (demand_one f n) c cs g w i t) bs (extends_rest (in_births r j l))
 
   -- a place is the number of a line
   place_fits : (i : ℕ) → i < j → T (d.need i) → x.place i < length x.lines
@@ -97,10 +97,10 @@ module _ (r : Refined) (h : Refines r) (f : ℕ) (n : Bool) (needed negated : Li
       omega (arith, nth_below (all_said m d bs) (x.place i) (formula_at m bs i) q, x_stands.long)
 
   x_few : length x.lines ≤ total
-  x_few = omega (arith, tell_grows m d (extends_rest (in_births r h j l)), k.size)
+  x_few = omega (arith, tell_grows m d (extends_rest (in_births r j l)), k.size)
 
   pub all_few : total ≤ 16777217
-  all_few = omega (arith, tell_fits r h d, k.size)
+  all_few = omega (arith, tell_fits r d, k.size)
 
   -- formula j is needed
   module _ (z : eqb (bit_at needed j) 1 ≡ true) (places mask : List ℕ) (next : ℕ) (e : next ≡ lines_up_to r d j) (p : Placed r d j places) (terms : TermsAre r j mask) where
@@ -111,17 +111,17 @@ module _ (r : Refined) (h : Refines r) (f : ℕ) (n : Bool) (needed negated : Li
     told = tell_next m d b bs true (sym need_bit ∙ z)
 
     abbrev row : List ℕ
-    row = row_of r.rows.now r.width b.reach
+    row = row_of r.answers.rows.now r.answers.width b.reach
 
     term_bit : (i : ℕ) → eqb (bit_at mask i) 1 ≡ has_term r j i
     term_bit i = ap (λ v. eqb v 1) (terms i) ∙ bit_back (has_term r j i)
 
     term_needed : (i : ℕ) → T (has_term r j i) → T (d.need i)
-    term_needed i t = demanded true m (demand_one f n) b bs (in_births r h j l) is_needed i t
+    term_needed i t = demanded true m (demand_one f n) b bs (in_births r j l) is_needed i t
 
     row_bit : (i : ℕ) → i < j → T (has_term r j i) → eqb (bit_at row i) 1 ≡ answer m (older r j) i b.reach
-    row_bit i o t = ap (λ v. eqb v 1) (h.done.link.bits b.reach i (reach_below r h j l) (omega (arith, within r h j l)))
-        ∙ bit_back (answer m (formulas m (births m)) i b.reach) ∙ answers_same r h j l i t
+    row_bit i o t = ap (λ v. eqb v 1) (r.done.link.bits b.reach i (reach_below r j l) (omega (arith, within r j l)))
+        ∙ bit_back (answer m (formulas m (births m)) i b.reach) ∙ answers_same r j l i t
 
     -- the terms are joined as the text says
     pub same_body : body_by mask row places next j ≡ terms_told m b bs x
@@ -153,11 +153,18 @@ module _ (r : Refined) (h : Refines r) (f : ℕ) (n : Bool) (needed negated : Li
 
     -- and they have room
     pub then_few : at + (1 + cond (d.negated (length bs)) 1 0) ≤ total
-    then_few = omega (arith, then_many, tell_grows m d (in_births r h j l), k.size)
+    then_few = omega (arith, then_many, tell_grows m d (in_births r j l), k.size)
 
     -- for the negation too, if it is needed
     pub then_room : T (eqb (bit_at negated j) 1) → at + 2 ≤ total
     then_room t = omega (arith, then_few, ap {B = ℕ} (λ c. cond c 1 0) (sym negate_bit ∙ T-is (eqb (bit_at negated j) 1) t))
+
+    -- the same of the terms as they are joined
+    pub body_few : (row' : List ℕ) → row' ≡ row → next + length (body_by mask row' places next j).ands + 1 ≤ total
+    body_few row' o = omega (arith, e, ap (λ w. length (body_by mask w places next j).ands) o, ap (λ (y : Joined). length y.ands) same_body, then_few)
+
+    pub body_room : (row' : List ℕ) → row' ≡ row → T (eqb (bit_at negated j) 1) → next + length (body_by mask row' places next j).ands + 2 ≤ total
+    body_room row' o t = omega (arith, e, ap (λ w. length (body_by mask w places next j).ands) o, ap (λ (y : Joined). length y.ands) same_body, then_room t)
 
     pub line_fits : (i : ℕ) → i < j → T (eqb (bit_at mask i) 1) → get_or places i 0 + 1 < 2 ^ 32
     line_fits i o t =

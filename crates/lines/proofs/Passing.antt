@@ -12,8 +12,8 @@ use Rattle.theory.proofs.Least.{formulas_length}
 use Rattle.lent.specs.Bits.{bit_at, bits_set}
 use Rattle.formulas.specs.Link.{birth_at, births_of, row_of}
 use Rattle.formulas.proofs.Linking.{births_length}
-use Rattle.refine.specs.declared.Refined.{Refined}
-use Rattle.refine.specs.Refined.{Refines, machine_in}
+use Rattle.refine.specs.declared.refined.Refined.{Refined}
+use Rattle.refine.specs.Refined.{machine_in}
 use Rattle.lines.specs.Terms.{older, has_term, TermsAre}
 use Rattle.lines.specs.Marked.{Demanded, Passed}
 use Rattle.lines.proofs.Known.{in_births, reach_below}
@@ -62,7 +62,7 @@ unfolding count
 count_all f j zero h = ap (count f) (add-zero j)
 count_all f j (suc k) h = ap (count f) (add-suc j k) ∙ ap (λ c. cond c 1 0 + count f (j + k)) (h (j + k) (omega arith)) ∙ omega (arith, count_all f j k h)
 
-module _ (r : Refined) (h : Refines r) (j : ℕ) (l : j < r.counts.formulas) where
+module _ (r : Refined) (j : ℕ) (l : j < r.counts.formulas) where
   abbrev m : Machine
   m = machine_in r
 
@@ -75,8 +75,8 @@ module _ (r : Refined) (h : Refines r) (j : ℕ) (l : j < r.counts.formulas) whe
   how_old : length bs ≡ j
   how_old = births_length r.births.now j
 
-  pub within : j < 32 * r.width
-  within = omega (arith, h.done.link.room, ap length h.done.born, births_length r.births.now r.counts.formulas)
+  pub within : j < 32 * r.answers.width
+  within = omega (arith, r.done.link.room, ap length r.done.born, births_length r.births.now r.counts.formulas)
 
   -- no term is as new as its formula
   terms_end : (i : ℕ) → j ≤ i → has_term r j i ≡ false
@@ -87,33 +87,33 @@ module _ (r : Refined) (h : Refines r) (j : ℕ) (l : j < r.counts.formulas) whe
       go false n = refl
 
   -- a formula that isn't needed passes nothing on
-  pub not_needed : (needed negated : List ℕ) → eqb (bit_at needed j) 1 ≡ false → (d : Demands) → Demanded d r.width needed negated → Passed r j d needed negated 0
+  pub not_needed : (needed negated : List ℕ) → eqb (bit_at needed j) 1 ≡ false → (d : Demands) → Demanded d r.answers.width needed negated → Passed r j d needed negated 0
   not_needed needed negated z d k =
       let no : d.need j ≡ false = sym (bit_back (d.need j)) ∙ sym (ap (λ x. eqb x 1) (k.need j within)) ∙ z in
       let same : passed_on m b bs d ≡ d = ap (λ c. cond c (demand m (formulas m bs) b d) d) (ap d.need how_old ∙ no) in
       record {
-        bits = subst (λ (x : Demands). Demanded x r.width needed negated) (sym same) k;
+        bits = subst (λ (x : Demands). Demanded x r.answers.width needed negated) (sym same) k;
         size = sym (ap (λ c. cond c (lines_for (count (has_term r j) j) (d.negated j)) 0) no);
       }
 
   -- answers by the older formulas are answers by all
   pub answers_same : (q : ℕ) → T (has_term r j q) → answer m (formulas m (births m)) q b.reach ≡ answer m (older r j) q b.reach
-  answers_same q t = ap (λ f. satisfies m f b.reach) (from_oldest_extends m (neg top) q (extends_rest (in_births r h j l)) (omega (arith, term_below m (older r j) b q t, formulas_length m bs)))
+  answers_same q t = ap (λ f. satisfies m f b.reach) (from_oldest_extends m (neg top) q (extends_rest (in_births r j l)) (omega (arith, term_below m (older r j) b q t, formulas_length m bs)))
 
-  module _ (needed negated mask needed' negated' : List ℕ) (terms : TermsAre r j mask) (wide : length mask ≡ r.width)
+  module _ (needed negated mask needed' negated' : List ℕ) (terms : TermsAre r j mask) (wide : length mask ≡ r.answers.width)
       (one : (q : ℕ) → bit_at needed' q ≡ max (bit_at needed q) (bit_at mask q))
-      (two : (q : ℕ) → bit_at negated' q ≡ max (bit_at negated q) (min (bit_at mask q) (1 - bit_at (row_of r.rows.now r.width b.reach) q))) where
+      (two : (q : ℕ) → bit_at negated' q ≡ max (bit_at negated q) (min (bit_at mask q) (1 - bit_at (row_of r.answers.rows.now r.answers.width b.reach) q))) where
     -- the terms are as many as the mask has bits
     pub how_many : bits_set mask (32 * length mask) ≡ count (has_term r j) j
     how_many =
-        let n : 32 * length mask ≡ j + (32 * r.width - j) = omega (arith, within) in
-        ap (bits_set mask) n ∙ bits_count mask (has_term r j) terms (j + (32 * r.width - j)) ∙ count_all (has_term r j) j (32 * r.width - j) terms_end
+        let n : 32 * length mask ≡ j + (32 * r.answers.width - j) = omega (arith, within) in
+        ap (bits_set mask) n ∙ bits_count mask (has_term r j) terms (j + (32 * r.answers.width - j)) ∙ count_all (has_term r j) j (32 * r.answers.width - j) terms_end
 
-    demanded : (d : Demands) → Demanded d r.width needed negated → Demanded (demand m (formulas m bs) b d) r.width needed' negated'
+    demanded : (d : Demands) → Demanded d r.answers.width needed negated → Demanded (demand m (formulas m bs) b d) r.answers.width needed' negated'
     demanded d k = record {
       need = λ q o. one q ∙ ap₂ max (k.need q o) (terms q) ∙ either_bit (d.need q) (has_term r j q);
       negate = λ q o.
-          two q ∙ ap₂ max (k.negate q o) (ap₂ min (terms q) (ap (λ x. 1 - x) (h.done.link.bits b.reach q (reach_below r h j l) o)))
+          two q ∙ ap₂ max (k.negate q o) (ap₂ min (terms q) (ap (λ x. 1 - x) (r.done.link.bits b.reach q (reach_below r j l) o)))
           ∙ lacking_bit (d.negated q) (has_term r j q) (answer m (formulas m (births m)) q b.reach) (answer m (older r j) q b.reach) (answers_same q);
     }
 
@@ -122,12 +122,12 @@ module _ (r : Refined) (h : Refines r) (j : ℕ) (l : j < r.counts.formulas) whe
 
     -- a needed formula passes its terms on
     pub needed_passes : (lines : ℕ) → eqb (bit_at needed j) 1 ≡ true → lines ≡ lines_for (bits_set mask (32 * length mask)) (eqb (bit_at negated' j) 1)
-        → (d : Demands) → Demanded d r.width needed negated → Passed r j d needed' negated' lines
+        → (d : Demands) → Demanded d r.answers.width needed negated → Passed r j d needed' negated' lines
     needed_passes lines z e d k =
         let is : d.need j ≡ true = sym (bit_back (d.need j)) ∙ sym (ap (λ x. eqb x 1) (k.need j within)) ∙ z in
         let more : passed_on m b bs d ≡ demand m (formulas m bs) b d = ap (λ c. cond c (demand m (formulas m bs) b d) d) (ap d.need how_old ∙ is) in
         let own : eqb (bit_at negated' j) 1 ≡ d.negated j = ap (λ x. eqb x 1) (own_bit ∙ k.negate j within) ∙ bit_back (d.negated j) in
         record {
-          bits = subst (λ (x : Demands). Demanded x r.width needed' negated') (sym more) (demanded d k);
+          bits = subst (λ (x : Demands). Demanded x r.answers.width needed' negated') (sym more) (demanded d k);
           size = e ∙ ap₂ lines_for how_many own ∙ sym (ap (λ c. cond c (lines_for (count (has_term r j) j) (d.negated j)) 0) is);
         }

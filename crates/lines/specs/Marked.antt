@@ -5,7 +5,7 @@ use Rattle.theory.specs.Births.{births}
 use Rattle.theory.specs.Told.{Demands, passed_on, demands, demand_one, lines_for, tell}
 use Rattle.lent.specs.Bits.{bit_at}
 use Rattle.formulas.specs.Link.{birth_at, births_of}
-use Rattle.refine.specs.declared.Refined.{Refined}
+use Rattle.refine.specs.declared.refined.Refined.{Refined}
 use Rattle.refine.specs.Refined.{machine_in}
 use Rattle.lines.specs.Terms.{has_term}
 
@@ -16,12 +16,12 @@ pub record Demanded (d : Demands) (w : ℕ) (needed negated : List ℕ) : Type 0
 
 -- what formula j demands is added, if it is needed, and how many lines it takes
 pub record Passed (r : Refined) (j : ℕ) (d : Demands) (needed' negated' : List ℕ) (lines : ℕ) : Type 0 where
-  pub bits : Demanded (passed_on (machine_in r) (birth_at r.births.now j) (births_of r.births.now j) d) r.width needed' negated'
+  pub bits : Demanded (passed_on (machine_in r) (birth_at r.births.now j) (births_of r.births.now j) d) r.answers.width needed' negated'
   pub size : lines ≡ cond (d.need j) (lines_for (count (has_term r j) j) (d.negated j)) 0
 
 -- so it is whatever was demanded before
 abbrev pub Passes : Refined → ℕ → List ℕ → List ℕ → List ℕ → List ℕ → ℕ → Type 0
-Passes r j needed negated needed' negated' lines = (d : Demands) → Demanded d r.width needed negated → Passed r j d needed' negated' lines
+Passes r j needed negated needed' negated' lines = (d : Demands) → Demanded d r.answers.width needed negated → Passed r j d needed' negated' lines
 
 -- all that is demanded where formula j is wanted, negated if n says so
 abbrev pub wanted_in : Refined → ℕ → Bool → Demands
@@ -35,10 +35,10 @@ lines_up_to r d i = length (tell (machine_in r) d (births_of r.births.now i)).li
 pub record Marking (r : Refined) (all : Demands) (i : ℕ) (needed negated : List ℕ) (lines : ℕ) : Type 0 where
   pub d : Demands
   pub rest : all ≡ demands (machine_in r) (births_of r.births.now i) d
-  pub bits : Demanded d r.width needed negated
+  pub bits : Demanded d r.answers.width needed negated
   pub size : lines + lines_up_to r all i ≡ length (tell (machine_in r) all (births (machine_in r))).lines + 1
 
 -- all that is needed is marked, and how many lines tell it
 pub record Marked (r : Refined) (all : Demands) (needed negated : List ℕ) (lines : ℕ) : Type 0 where
-  pub bits : Demanded all r.width needed negated
+  pub bits : Demanded all r.answers.width needed negated
   pub size : lines ≡ length (tell (machine_in r) all (births (machine_in r))).lines

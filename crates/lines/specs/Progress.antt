@@ -4,19 +4,15 @@ use Rattle.lts.specs.Line.{Line}
 use Rattle.theory.specs.Births.{births}
 use Rattle.theory.specs.Told.{Demands, Text, tell}
 use Rattle.formulas.specs.Link.{births_of}
-use Rattle.refine.specs.declared.Refined.{Refined}
+use Rattle.refine.specs.declared.refined.Refined.{Refined}
 use Rattle.refine.specs.Refined.{machine_in}
 use Rattle.lines.specs.declared.needs.Needs.{Needs}
-use Rattle.lines.specs.Marked.{wanted_in, lines_up_to, Marked}
+use Rattle.lines.specs.Marked.{wanted_in, lines_up_to}
 use Rattle.lines.specs.Written.{Written}
 
 -- all that is demanded where the formula of n is wanted
-abbrev pub all_needed : Refined → Needs → Demands
-all_needed r n = wanted_in r n.formula n.negate
-
--- n has just that
-abbrev pub NeedsAre : Refined → Needs → Type 0
-NeedsAre r n = Marked r (all_needed r n) n.needed.now n.negated.now n.lines
+abbrev pub all_needed : Needs → Demands
+all_needed n = wanted_in n.refined n.formula n.negate
 
 -- the text of the oldest j formulas
 abbrev pub text_to : Refined → Demands → ℕ → Text
@@ -33,5 +29,5 @@ pub record ToldOn (r : Refined) (d : Demands) (j : ℕ) (lines : List ℕ) (next
   pub wrote : (before : List ℕ) → Written before (text_to r d j).lines lines → Written before (text_to r d (suc j)).lines lines'
 
 -- the lines that tell the formula of n
-abbrev pub told_by : Refined → Needs → List Line
-told_by r n = (tell (machine_in r) (all_needed r n) (births (machine_in r))).lines
+abbrev pub told_by : Needs → List Line
+told_by n = (tell (machine_in n.refined) (all_needed n) (births (machine_in n.refined))).lines

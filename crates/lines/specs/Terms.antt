@@ -5,7 +5,7 @@ use Rattle.theory.specs.Births.{formulas}
 use Rattle.theory.specs.Told.{is_term}
 use Rattle.lent.specs.Bits.{bit_at}
 use Rattle.formulas.specs.Link.{birth_at, births_of}
-use Rattle.refine.specs.declared.Refined.{Refined}
+use Rattle.refine.specs.declared.refined.Refined.{Refined}
 use Rattle.refine.specs.Refined.{machine_in}
 
 -- the formulas that are older than formula j

@@ -7,7 +7,8 @@ ghost use Rattle.lines.specs.Joins.{Joins, TermJoins, body_by, BodyIs, Appends};
 use crate::line::{Line, Says, write_line};
 use lent::has_bit;
 
-// The line that says all terms so far, line 0 while there is none, and the number of the next line.
+// The line that says all terms so far, and the number of the next line.
+// Kept: line 0 while there is no term. It is a line, the one that says yes, so a term joined to it is the term itself.
 #[derive(Clone, Copy)]
 pub struct Body {
     pub at: Line,
@@ -84,6 +85,7 @@ pub fn join_terms(
     ensures lines { Appends lines.old next (body_by mask.now reach.now places.now next j).ands lines.new }
 {
     let mut body = Body { at: Line(0), next };
+    // Kept: the index. Formulas go by number, and bits are asked for by it.
     for i in 0..j {
         body = join_term(mask, reach, places, i, body, lines);
     }

@@ -12,4 +12,4 @@ pub use line::{Line, Says, write_line};
 pub use marking::mark;
 pub use needs::Needs;
 pub use telling::tell;
-pub use terms::{birth_in, find_terms};
+pub use terms::find_terms;

@@ -17,14 +17,16 @@ pub enum Says {
 }
 
 // The three words of a line.
-fn words_of(says: Says) -> [u32; 3]
-    ensures { result ≡ line_words (line_of says) }
-{
-    match says {
-        Says::Top => [0, 0, 0],
-        Says::Not(Line(one)) => [1, one, 0],
-        Says::Both(Line(one), Line(other)) => [2, one, other],
-        Says::Can(label, Line(then)) => [3, label, then],
+impl From<Says> for [u32; 3] {
+    ghost from_gives = { λ says words. words ≡ line_words (line_of says) };
+
+    fn from(says: Says) -> [u32; 3] {
+        match says {
+            Says::Top => [0, 0, 0],
+            Says::Not(Line(one)) => [1, one, 0],
+            Says::Both(Line(one), Line(other)) => [2, one, other],
+            Says::Can(label, Line(then)) => [3, label, then],
+        }
     }
 }
 
@@ -33,5 +35,5 @@ pub fn write_line(lines: &mut [u32], at: usize, says: Says)
     requires { 3 * at + 3 ≤ length lines.old }
     ensures { LineWritten lines.old at (line_of says) lines.new }
 {
-    lines[3 * at..3 * at + 3].copy_from_slice(&words_of(says));
+    lines[3 * at..3 * at + 3].copy_from_slice(&<[u32; 3]>::from(says));
 }

@@ -1,46 +1,43 @@
 // Marks which formulas are needed, down the list, and counts their lines.
 ghost use Rattle.std.specs.Prelude.{◌≡◌, ℕ, ◌*◌, ◌^◌, ◌<◌, Bool, length};
-ghost use Rattle.refine.specs.Refined.{RefinesChained};
 ghost use Rattle.theory.specs.Told.{demand_one, lines_for};
-ghost use Rattle.lines.specs.Marked.{Demanded, Passes, Marked, wanted_in};
+ghost use Rattle.lines.specs.Marked.{Demanded, Passes};
 
-use crate::terms::{birth_in, find_terms};
-use formulas::row;
+use crate::needs::Needs;
+use crate::terms::find_terms;
+use chains::State;
 use lent::{clear, count_bits, has_bit, set_bit, unite, unite_lacking};
-use refine::RefinedChained;
+use refine::Refined;
 
 // How many lines a formula with so many terms takes, with its negation or without.
 fn lines_for(terms: usize, negated: bool) -> usize
     requires { terms < 2 ^ 32 }
     ensures { result ≡ lines_for terms negated }
 {
-    let own = terms.max(1);
-    if negated { own + 1 } else { own }
+    terms.max(1) + usize::from(negated)
 }
 
 // If formula `j` is needed, so are its terms, negated where its reached state lacks them. Gives how many lines it takes.
 fn pass_on(
-    chained: RefinedChained,
+    refined: Refined,
     j: usize,
     needed: &mut [u32],
     negated: &mut [u32],
     mask: &mut [u32],
 ) -> usize
-    requires refined { RefinesChained chained }
-    requires formula { j < chained.refined.counts.formulas }
-    requires needed { length needed.old ≡ chained.refined.width }
-    requires negated { length negated.old ≡ chained.refined.width }
-    requires mask { length mask.old ≡ chained.refined.width }
-    ensures { Passes chained.entry.refined j needed.old negated.old needed.new negated.new result }
+    requires formula { j < refined.counts.formulas }
+    requires needed { length needed.old ≡ refined.answers.width }
+    requires negated { length negated.old ≡ refined.answers.width }
+    requires mask { length mask.old ≡ refined.answers.width }
+    ensures { Passes refined.entry j needed.old negated.old needed.new negated.new result }
 {
     if !has_bit(needed, j) {
         return 0;
     }
-    let refined = chained.refined;
-    find_terms(chained, j, mask);
-    let reach = birth_in(refined, j).reach as usize;
+    find_terms(refined, j, mask);
+    let reach = State(refined.birth(j).reach as usize);
     unite(needed, mask);
-    unite_lacking(negated, mask, row(refined.rows, refined.width, reach));
+    unite_lacking(negated, mask, refined.answers.row(reach));
     lines_for(count_bits(mask), has_bit(negated, j))
 }
 
@@ -58,26 +55,34 @@ fn mark_one(needed: &mut [u32], negated: &mut [u32], j: usize, negate: bool)
     }
 }
 
-// Marks all that is needed to tell formula `j`, or its negation. Gives how many lines tell it.
-pub fn mark(
-    chained: RefinedChained,
+// Marks all that is needed to tell formula `j`, or its negation, and counts the lines that tell it.
+pub fn mark<'a>(
+    refined: Refined<'a>,
     j: usize,
     negate: bool,
-    needed: &mut [u32],
-    negated: &mut [u32],
+    needed: &'a mut [u32],
+    negated: &'a mut [u32],
     mask: &mut [u32],
-) -> usize
-    requires refined { RefinesChained chained }
-    requires formula { j < chained.refined.counts.formulas }
-    requires needed { length needed.old ≡ chained.refined.width }
-    requires negated { length negated.old ≡ chained.refined.width }
-    requires mask { length mask.old ≡ chained.refined.width }
-    ensures { Marked chained.entry.refined (wanted_in chained.entry.refined j negate) needed.new negated.new result }
+) -> Needs<'a>
+    requires formula { j < refined.counts.formulas }
+    requires needed { length needed.old ≡ refined.answers.width }
+    requires negated { length negated.old ≡ refined.answers.width }
+    requires mask { length mask.old ≡ refined.answers.width }
+    ensures refined { result.refined ≡ refined.entry }
+    ensures formula { (result.formula ≡ j) × (result.negate ≡ negate) }
 {
     mark_one(needed, negated, j, negate);
     let mut lines = 1;
-    for i in (0..chained.refined.counts.formulas).rev() {
-        lines += pass_on(chained, i, needed, negated, mask);
+    // Kept: the index. Formulas go by number, and no slice is read by it here.
+    for i in (0..refined.counts.formulas).rev() {
+        lines += pass_on(refined, i, needed, negated, mask);
     }
-    lines
+    Needs {
+        refined,
+        formula: j,
+        negate,
+        needed,
+        negated,
+        lines,
+    }
 }

@@ -2,19 +2,17 @@
 ghost use Rattle.std.specs.Prelude.{◌≡◌, ◌+◌, ◌*◌, ◌^◌, ◌<◌, ◌≤◌, T, [], ◌∷◌, length, if◌then◌else◌, ◌==◌, nat_eq};
 ghost use Rattle.lts.specs.Line.{neg_line};
 ghost use Rattle.lent.specs.Bits.{bit_at};
-ghost use Rattle.refine.specs.Refined.{RefinesChained};
 ghost use Rattle.lines.specs.Joins.{Appends};
 ghost use Rattle.lines.specs.Marked.{lines_up_to};
-ghost use Rattle.lines.specs.Progress.{all_needed, NeedsAre, Placed, ToldOn, told_by};
+ghost use Rattle.lines.specs.Progress.{all_needed, Placed, ToldOn, told_by};
 ghost use Rattle.lines.specs.Written.{Written};
 
 use crate::joining::join_terms;
 use crate::line::{Line, Says, write_line};
 use crate::needs::Needs;
-use crate::terms::{birth_in, find_terms};
-use formulas::row;
+use crate::terms::find_terms;
+use chains::State;
 use lent::has_bit;
-use refine::RefinedChained;
 
 // Tells the negation of formula `j`, which stands at line `at`, if it is needed. Gives the number of the next line.
 fn tell_negation(negated: &[u32], j: usize, at: usize, lines: &mut [u32]) -> usize
@@ -31,8 +29,8 @@ fn tell_negation(negated: &[u32], j: usize, at: usize, lines: &mut [u32]) -> usi
 }
 
 // Tells formula `j` if it is needed, from line `next` on, and notes its place. Gives the number of the next line.
+// Kept: the number of the next line beside the lines, here and in joining, since lent words can't grow as a Vec does.
 fn tell_formula(
-    chained: RefinedChained,
     needs: Needs,
     j: usize,
     next: usize,
@@ -40,23 +38,21 @@ fn tell_formula(
     places: &mut [u32],
     lines: &mut [u32],
 ) -> usize
-    requires refined { RefinesChained chained }
-    requires needs { NeedsAre chained.refined needs }
-    requires formula { j < chained.refined.counts.formulas }
-    requires next { next ≡ lines_up_to chained.refined (all_needed chained.refined needs) j }
-    requires mask { length mask.old ≡ chained.refined.width }
-    requires places { chained.refined.counts.formulas ≤ length places.old }
-    requires placed { Placed chained.refined (all_needed chained.refined needs) j places.old }
+    requires formula { j < needs.refined.counts.formulas }
+    requires next { next ≡ lines_up_to needs.refined (all_needed needs) j }
+    requires mask { length mask.old ≡ needs.refined.answers.width }
+    requires places { needs.refined.counts.formulas ≤ length places.old }
+    requires placed { Placed needs.refined (all_needed needs) j places.old }
     requires room { 3 * needs.lines ≤ length lines.old }
-    ensures { ToldOn chained.entry.refined (all_needed chained.entry.refined needs.entry) j lines.old result places.new lines.new }
+    ensures { ToldOn needs.entry.refined (all_needed needs.entry) j lines.old result places.new lines.new }
 {
     if !has_bit(needs.needed, j) {
         return next;
     }
-    let refined = chained.refined;
-    find_terms(chained, j, mask);
-    let birth = birth_in(refined, j);
-    let reach = row(refined.rows, refined.width, birth.reach as usize);
+    let refined = needs.refined;
+    find_terms(refined, j, mask);
+    let birth = refined.birth(j);
+    let reach = refined.answers.row(State(birth.reach as usize));
     let body = join_terms(mask, reach, places, j, next, lines);
     places[j] = body.next as u32;
     write_line(lines, body.next, Says::Can(birth.label, body.at));
@@ -64,23 +60,16 @@ fn tell_formula(
 }
 
 // Writes the lines that tell the formula of `needs`.
-pub fn tell(
-    chained: RefinedChained,
-    needs: Needs,
-    mask: &mut [u32],
-    places: &mut [u32],
-    lines: &mut [u32],
-)
-    requires refined { RefinesChained chained }
-    requires needs { NeedsAre chained.refined needs }
-    requires mask { length mask.old ≡ chained.refined.width }
-    requires places { chained.refined.counts.formulas ≤ length places.old }
+pub fn tell(needs: Needs, mask: &mut [u32], places: &mut [u32], lines: &mut [u32])
+    requires mask { length mask.old ≡ needs.refined.answers.width }
+    requires places { needs.refined.counts.formulas ≤ length places.old }
     requires room { 3 * needs.lines ≤ length lines.old }
-    ensures { Written lines.old (told_by chained.entry.refined needs.entry) lines.new }
+    ensures { Written lines.old (told_by needs.entry) lines.new }
 {
     write_line(lines, 0, Says::Top);
     let mut next = 1;
-    for j in 0..chained.refined.counts.formulas {
-        next = tell_formula(chained, needs, j, next, mask, places, lines);
+    // Kept: the index. Formulas go by number, and no slice is read by it here.
+    for j in 0..needs.refined.counts.formulas {
+        next = tell_formula(needs, j, next, mask, places, lines);
     }
 }
