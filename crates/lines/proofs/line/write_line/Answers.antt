@@ -4,4 +4,4 @@ use Rattle.lines.proofs.Writing.{put_written}
 use Rattle.lines.proofs.line.write_line.Goals as goal
 
 pub returns : goal.returns
-returns c = put_written c.args.lines.now c.args.at _ (line_of c.args.says) c.copy_from_slice.new.self c.requires (omega arith) (c.copy_from_slice.ensures.after ∙ c.from.ensures.from_gives)
+returns c = put_written c.args.lines.now c.args.at _ (line_of c.args.says) c.copy_from_slice.new.self c.requires (omega arith) (c.copy_from_slice.ensures.after ∙ c.from.ensures)
