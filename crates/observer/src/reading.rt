@@ -5,6 +5,7 @@ ghost use Rattle.observer.specs.Read.{ReadSays};
 use crate::asked::Asked;
 
 // The question that the words encode, borrowing them; none exactly if they encode none.
+// Kept: no `TryFrom`, since its error would say no more than `None` does.
 #[tactic(auto, using(lts::proofs::Encoding::one_question))]
 pub fn read(words: &[u32]) -> Option<Asked<'_>>
     ensures says { ReadSays words.now result }
