@@ -2,7 +2,8 @@
 #![tactic(auto)]
 
 ghost use Rattle.std.specs.Prelude.{◌≡◌};
-ghost use Rattle.lts.specs.Decoding.{first_transition};
+ghost use Rattle.std.specs.Iterator.{YieldsFirst, item_count};
+ghost use Rattle.lts.specs.Decoding.{first_transition, transitions_of};
 
 pub mod museum;
 
@@ -27,5 +28,25 @@ impl Transition {
             label: *label,
             target: *target,
         })
+    }
+}
+
+// The transitions that words hold, one after another, less what is left over at the end.
+#[derive(Drop)]
+pub struct Transitions<'a> {
+    pub words: &'a [u32],
+}
+
+impl Iterator for Transitions<'_> {
+    type Item = Transition;
+
+    ghost next_gives = { YieldsFirst (λ s. transitions_of s.words.now) };
+
+    ghost remaining = { item_count (λ s. transitions_of s.words.now) };
+
+    fn next(&mut self) -> Option<Transition> {
+        let first = Transition::starting(self.words)?;
+        self.words = &self.words[3..];
+        Some(first)
     }
 }

@@ -1,4 +1,5 @@
 -- What the public calls promise.
 pub mod Read
+pub mod Unanswered
 pub mod Distance
 pub mod Compared

@@ -4,7 +4,7 @@ ghost use Rattle.lts.specs.Decoding.{transitions_of};
 ghost use Rattle.lts.specs.Question.{fits, within, valid};
 ghost use Rattle.observer.specs.Read.{question};
 
-use lts::Transition;
+use lts::{Transition, Transitions};
 
 pub const MAX_STATES: u32 = 4096;
 
@@ -32,14 +32,7 @@ fn is_within(t: Transition, states: u32) -> bool
 fn all_within(states: u32, words: &[u32]) -> bool
     ensures { result ≡ within states (transitions_of words.now) }
 {
-    let mut rest = words;
-    while let Some(t) = Transition::starting(rest) {
-        if !is_within(t, states) {
-            return false;
-        }
-        rest = &rest[3..];
-    }
-    true
+    Transitions { words }.all(|t| is_within(t, states))
 }
 
 impl Asked<'_> {

@@ -6,6 +6,7 @@ ghost use Rattle.observer.specs.declared.comparison.Compared.TheVariants.{Few};
 
 use crate::comparison::Compared;
 use crate::reading::read;
+use crate::room::is_few;
 use chains::State;
 use formulas::row;
 use lent::has_bit;
@@ -73,7 +74,7 @@ fn answer<'a>(words: &'a [u32], work: &'a mut [u32], lines: &mut [u32]) -> Compa
 pub fn compare(words: &[u32], lines: &mut [u32], work: &mut [u32]) -> Compared
     ensures { ComparedPost words.now (length work.old) lines.old lines.new result }
 {
-    if work.len() < 65536 || (work.len() - 65536) / 128 < words.len() {
+    if is_few(words.len(), work.len()) {
         return Compared::Few;
     }
     answer(words, work, lines)

@@ -4,13 +4,14 @@
 mod asked;
 mod compared;
 mod comparison;
-mod distance;
 mod measured;
 mod reading;
+mod room;
+mod unanswered;
 
 pub use asked::Asked;
 pub use compared::compare;
 pub use comparison::Compared;
-pub use distance::Distance;
 pub use measured::measure;
 pub use reading::read;
+pub use unanswered::Unanswered;

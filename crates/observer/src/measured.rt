@@ -2,23 +2,19 @@
 ghost use Rattle.std.specs.Prelude.{ℕ, length};
 ghost use Rattle.observer.specs.Distance.{DistancePost};
 
-use crate::distance::Distance;
 use crate::reading::read;
+use crate::room::is_few;
+use crate::unanswered::Unanswered;
 use refine::{ahead, refine};
 
-// Whether the two states of a question are bisimilar, and if not, how far ahead they differ. `Few` exactly if too few words are lent.
-pub fn measure<'a>(words: &'a [u32], work: &'a mut [u32]) -> Distance
+// How many steps ahead the two states of a question differ; none if they are bisimilar. `Few` exactly if too few words are lent.
+pub fn measure<'a>(words: &'a [u32], work: &'a mut [u32]) -> Result<Option<u32>, Unanswered>
     ensures { DistancePost words.now (length work.old) result }
 {
-    if work.len() < 65536 || (work.len() - 65536) / 128 < words.len() {
-        return Distance::Few;
+    if is_few(words.len(), work.len()) {
+        return Err(Unanswered::Few);
     }
-    let Some(asked) = read(words) else {
-        return Distance::NoMachine;
-    };
+    let asked = read(words).ok_or(Unanswered::NoMachine)?;
     let refined = refine(asked.states as usize, asked.transitions, work);
-    match ahead(refined, asked.first as usize, asked.second as usize) {
-        None => Distance::Same,
-        Some(depth) => Distance::Differ(depth),
-    }
+    Ok(ahead(refined, asked.first as usize, asked.second as usize))
 }

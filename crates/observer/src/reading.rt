@@ -5,22 +5,23 @@ ghost use Rattle.observer.specs.Read.{ReadSays};
 use crate::asked::Asked;
 
 // The question that the words encode, borrowing them; none exactly if they encode none.
+// Kept: no `TryFrom`, since its error would say no more than `None` does.
+#[tactic(auto, using(lts::proofs::Encoding::one_question))]
 pub fn read(words: &[u32]) -> Option<Asked<'_>>
     ensures says { ReadSays words.now result }
     ensures one { OneQuestion }
 {
-    let [states, count, rest @ ..] = words else {
+    let [states, count, transitions @ .., first, second] = words else {
         return None;
     };
-    let end = 3 * *count as usize;
-    if rest.len() != end + 2 {
+    if transitions.len() != 3 * *count as usize {
         return None;
     }
     let asked = Asked {
         states: *states,
-        transitions: &rest[0..end],
-        first: rest[end],
-        second: rest[end + 1],
+        transitions,
+        first: *first,
+        second: *second,
     };
-    if asked.is_valid() { Some(asked) } else { None }
+    asked.is_valid().then_some(asked)
 }

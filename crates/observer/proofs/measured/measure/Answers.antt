@@ -1,11 +1,8 @@
-use Rattle.std.proofs.Common.{arith}
-use Rattle.observer.proofs.Askable.{all_words, askable_of}
+use Rattle.std.proofs.Common.{subst}
+use Rattle.observer.specs.Read.{ReadSays}
+use Rattle.observer.proofs.Askable.{askable_of}
 use Rattle.observer.proofs.measured.measure.Goals as goal
 
-pub refine-refined-requires : goal.refine-refined-requires
-refine-refined-requires c =
-    let read = c.in-Some.ensures.says in
-    record {
-      askable = askable_of c.args.words.now c.in-Some.asked read;
-      enough = omega (arith, all_words c.args.words.now c.in-Some.asked read);
-    }
+pub refine-refined-requires-clause-askable : goal.refine-refined-requires-clause-askable
+refine-refined-requires-clause-askable c =
+    askable_of c.args.words.now c.in_ok-asked.asked (subst (ReadSays c.args.words.now) c.in_ok-asked.ensures.ok_part c.read.ensures.says)

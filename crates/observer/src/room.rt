@@ -1,0 +1,15 @@
+// How many words have to be lent.
+ghost use Rattle.std.specs.Prelude.{◌+◌, ◌*◌, ◌<◌, Decides};
+
+// What is asked for with any question.
+const BASE: usize = 65536;
+
+// What is asked for with each of its words.
+const FOR_EACH: usize = 128;
+
+// Whether `lent` words are too few for a question of so many words.
+pub fn is_few(words: usize, lent: usize) -> bool
+    ensures { Decides result (lent < 65536 + 128 * words) }
+{
+    lent < BASE || (lent - BASE) / FOR_EACH < words
+}
