@@ -56,14 +56,14 @@ fn mark_one(needed: &mut [u32], negated: &mut [u32], j: usize, negate: bool)
 }
 
 // Marks all that is needed to tell formula `j`, or its negation, and counts the lines that tell it.
-pub fn mark<'a>(
-    refined: Refined<'a>,
+pub fn mark<'r, 'n>(
+    refined: Refined<'r>,
     j: usize,
     negate: bool,
-    needed: &'a mut [u32],
-    negated: &'a mut [u32],
+    needed: &'n mut [u32],
+    negated: &'n mut [u32],
     mask: &mut [u32],
-) -> Needs<'a>
+) -> Needs<'r, 'n>
     requires formula { j < refined.counts.formulas }
     requires needed { length needed.old ≡ refined.answers.width }
     requires negated { length negated.old ≡ refined.answers.width }

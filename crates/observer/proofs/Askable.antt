@@ -3,7 +3,7 @@ use Rattle.std.proofs.Common.{◌≡◌, ℕ, ◌+◌, ◌*◌, ◌&&◌, ltb, l
 use Rattle.lts.specs.Question.{Question, within, transition_words}
 use Rattle.lts.proofs.Encoding.{length_words}
 use Rattle.theory.proofs.Bools.{and_0, and_1}
-use Rattle.refine.specs.Refined.{Askable}
+use Rattle.refine.specs.Askable.{Askable}
 use Rattle.observer.specs.declared.asked.Asked.{Asked}
 use Rattle.observer.specs.Read.{question, Reads}
 

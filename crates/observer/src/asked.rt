@@ -37,6 +37,7 @@ fn all_within(states: u32, words: &[u32]) -> bool
 
 impl Asked<'_> {
     // Whether the question is within the limits.
+    // Kept: a test at a time. As one chain of `&&` the proof stops at its limit of cases.
     pub fn is_valid(&self) -> bool
         ensures { result ≡ valid (question self.now) }
     {

@@ -1,6 +1,6 @@
 // Whether two states are bisimilar, and if not, the lines that tell them apart.
 ghost use Rattle.std.specs.Prelude.{◌≡◌, ◌+◌, ◌*◌, ◌<◌, ◌≤◌, length, ◌≢◌};
-ghost use Rattle.refine.specs.Refined.{RefinesChained, machine_in};
+ghost use Rattle.refine.specs.Refined.{machine_in};
 ghost use Rattle.observer.specs.Compared.{ApartSays, ComparedSays, ComparedPost};
 ghost use Rattle.observer.specs.declared.comparison.Compared.TheVariants.{Few};
 
@@ -8,50 +8,41 @@ use crate::comparison::Compared;
 use crate::reading::read;
 use crate::room::is_few;
 use chains::State;
-use formulas::row;
 use lent::has_bit;
-use lines::{Needs, mark, tell};
-use refine::{RefinedChained, first_telling, refine_chained};
+use lines::{mark, tell};
+use refine::{Refined, refine};
 
 // The words of lent memory that lines are told with: three rows of bits, and a place for each formula.
 const SCRATCH: usize = 8192;
 
 // Tells two states of a refined machine apart, if they differ. The lines are written if they fit.
 fn tell_apart(
-    chained: RefinedChained,
+    refined: Refined,
     s: State,
     t: State,
     scratch: &mut [u32],
     lines: &mut [u32],
 ) -> Compared
-    requires refined { RefinesChained chained }
-    requires one { s.0 < chained.refined.states }
-    requires other { t.0 < chained.refined.states }
+    requires one { s.0 < length refined.answers.system.first.now }
+    requires other { t.0 < length refined.answers.system.first.now }
     requires scratch { 8192 ≤ length scratch.old }
-    ensures { ApartSays (machine_in chained.entry.refined) s.0 t.0 lines.old lines.new result }
+    ensures { ApartSays (machine_in refined.entry) s.0 t.0 lines.old lines.new result }
 {
-    let refined = chained.refined;
-    let Some(formula) = first_telling(refined, s.0, t.0) else {
+    let Some(formula) = refined.first_telling(s, t) else {
         return Compared::Same;
     };
-    let depth = refined.births[4 * formula] as usize;
-    let (needed, rest) = scratch.split_at_mut(refined.width);
-    let (negated, rest) = rest.split_at_mut(refined.width);
-    let (mask, places) = rest.split_at_mut(refined.width);
-    let negate = !has_bit(row(refined.rows, refined.width, s.0), formula);
-    let count = mark(chained, formula, negate, needed, negated, mask);
-    if lines.len() < 3 * count {
-        return Compared::OutFull(depth, count);
+    let depth = refined.birth(formula).level as usize;
+    let width = refined.answers.width;
+    let (needed, rest) = scratch.split_at_mut(width);
+    let (negated, rest) = rest.split_at_mut(width);
+    let (mask, places) = rest.split_at_mut(width);
+    let negate = !has_bit(refined.answers.row(s), formula);
+    let needs = mark(refined, formula, negate, needed, negated, mask);
+    if lines.len() < 3 * needs.lines {
+        return Compared::OutFull(depth, needs.lines);
     }
-    let needs = Needs {
-        formula,
-        negate,
-        needed,
-        negated,
-        lines: count,
-    };
-    tell(chained, needs, mask, places, lines);
-    Compared::Differ(depth, count)
+    tell(needs, mask, places, lines);
+    Compared::Differ(depth, needs.lines)
 }
 
 // Answers the question that the words encode, if there is one, where enough words are lent.
@@ -64,10 +55,10 @@ fn answer<'a>(words: &'a [u32], work: &'a mut [u32], lines: &mut [u32]) -> Compa
         return Compared::NoMachine;
     };
     let (scratch, memory) = work.split_at_mut(SCRATCH);
-    let chained = refine_chained(asked.states as usize, asked.transitions, memory);
+    let refined = refine(asked.states as usize, asked.transitions, memory);
     let first = State(asked.first as usize);
     let second = State(asked.second as usize);
-    tell_apart(chained, first, second, scratch, lines)
+    tell_apart(refined, first, second, scratch, lines)
 }
 
 // Compares the two states of the question that the words encode: *same*, or lines whose last tells them apart, looking as few steps ahead as any formula can.

@@ -5,7 +5,8 @@ ghost use Rattle.observer.specs.Distance.{DistancePost};
 use crate::reading::read;
 use crate::room::is_few;
 use crate::unanswered::Unanswered;
-use refine::{ahead, refine};
+use chains::State;
+use refine::refine;
 
 // How many steps ahead the two states of a question differ; none if they are bisimilar. `Few` exactly if too few words are lent.
 pub fn measure<'a>(words: &'a [u32], work: &'a mut [u32]) -> Result<Option<u32>, Unanswered>
@@ -16,5 +17,7 @@ pub fn measure<'a>(words: &'a [u32], work: &'a mut [u32]) -> Result<Option<u32>,
     }
     let asked = read(words).ok_or(Unanswered::NoMachine)?;
     let refined = refine(asked.states as usize, asked.transitions, work);
-    Ok(ahead(refined, asked.first as usize, asked.second as usize))
+    let first = State(asked.first as usize);
+    let second = State(asked.second as usize);
+    Ok(refined.ahead(first, second))
 }
