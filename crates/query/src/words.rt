@@ -7,7 +7,7 @@ use std::alloc::AllocError;
 use std::fmt;
 
 // A word that is no number, and which word of its line it is, counted from 1.
-#[derive(Clone, Copy)]
+#[derive(Clone, Copy, Debug, PartialEq, Eq)]
 pub struct NoWords<'a> {
     pub found: &'a str,
     pub place: usize,
@@ -38,6 +38,7 @@ pub fn number(word: &str) -> Option<u32>
 }
 
 // Puts the words of a line in place of what `words` holds, or says which word is no number.
+// Kept: the outer error is memory's, which callers pass up; the inner one is what they tell of the line.
 #[tactic(auto, using(crate::proofs::Roundtrip::reads_back))]
 pub fn read_words<'a>(
     line: &'a str,
