@@ -1,6 +1,6 @@
 // Words of a line: white space, names without quotes and names in quotes.
 ghost use Rattle.std.specs.Prelude.{◌≡◌};
-ghost use Rattle.script.specs.Grammar.{bare, named, plain, quoted, signed, skip, unquoted};
+ghost use Rattle.script.specs.Grammar.{bare, named, plain, quoted, skip, unquoted};
 ghost use Rattle.script.specs.Words.{worded};
 
 use crate::{Expected, Fault};
@@ -21,19 +21,12 @@ fn is_plain(b: u8) -> bool
     b > b' ' && !matches!(b, b'"' | b'#' | b':' | 0x7f)
 }
 
-// The sign -> stands at the front.
-fn is_sign(bytes: &[u8]) -> bool
-    ensures { result ≡ signed bytes.now }
-{
-    matches!(bytes, [b'-', b'>', ..])
-}
-
 // How many bytes a name without quotes takes.
 pub fn bare_len(bytes: &[u8]) -> usize
     ensures { result ≡ bare bytes.now }
 {
     for (n, b) in bytes.iter().enumerate() {
-        if !is_plain(*b) || is_sign(&bytes[n..]) {
+        if !is_plain(*b) || bytes[n..].starts_with(b"->") {
             return n;
         }
     }
