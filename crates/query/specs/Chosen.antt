@@ -1,6 +1,8 @@
 -- What arguments ask for, as a function of their bytes.
 use Rattle.std.specs.Prelude.{ℕ, Bool, cond, ◌||◌, List, [], ◌∷◌, ◌++◌, Some, None, Ok, Err, codes, Option, Result}
 use Rattle.std.specs.Str.{bytes_eq}
+use Rattle.query.specs.declared.options.Room.{Room}
+use Rattle.query.specs.declared.options.Room.TheVariants.{Lines, Work}
 use Rattle.query.specs.declared.plan.Command.{Command}
 use Rattle.query.specs.declared.plan.Command.TheVariants.{Answer, Help}
 use Rattle.query.specs.declared.plan.Fault.{Fault}
@@ -24,6 +26,14 @@ is_room a = bytes_eq a (codes "--lines") || bytes_eq a (codes "--work")
 
 abbrev pub with_room : Options → List ℕ → ℕ → Options
 with_room o a n = cond (bytes_eq a (codes "--lines")) (record { lines = n; work = o.work }) (record { lines = o.lines; work = Some n })
+
+-- what the code takes for room, and what it makes of it
+abbrev pub room_of : List ℕ → Option Room
+room_of a = cond (bytes_eq a (codes "--lines")) (Some Lines) (cond (bytes_eq a (codes "--work")) (Some Work) None)
+
+abbrev pub given : Options → Room → ℕ → Options
+given o Lines n = record { lines = n; work = o.work }
+given o Work n = record { lines = o.lines; work = Some n }
 
 abbrev pub going : Option ℕ → Chosen → (ℕ → Chosen) → Chosen
 going None c f = c

@@ -55,6 +55,7 @@ impl fmt::Display for Answer<'_> {
             write!(f, " {depth} {count}")?;
             return show_words(told(self.lines, count), f);
         }
+        // Kept: an enum with numbers is taken apart by let .. else here, as a rule of the project has it.
         let Compared::OutFull(depth, count) = self.compared else {
             return Ok(());
         };

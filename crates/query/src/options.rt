@@ -1,7 +1,7 @@
 // How the program is asked to run.
 ghost use Rattle.std.specs.Prelude.{◌≡◌, map, Some, string_bytes, codes};
 ghost use Rattle.std.specs.Str.{bytes_eq};
-ghost use Rattle.query.specs.Chosen.{chosen, chosen_by, default, is_room, with_room, fault_words};
+ghost use Rattle.query.specs.Chosen.{chosen, chosen_by, default, fault_words, given, room_of};
 
 use crate::plan::{Command, Fault, Options};
 use crate::words::number;
@@ -29,25 +29,48 @@ impl fmt::Display for Fault<'_> {
     }
 }
 
-// Whether an option is one that gives room.
-fn gives_room(option: &str) -> bool
-    ensures { result ≡ is_room option.now }
+// What is asked for where no option says otherwise.
+impl Default for Options {
+    ghost is_default = { λ o. o ≡ default };
+
+    fn default() -> Options {
+        Options {
+            lines: 1_048_576,
+            work: None,
+        }
+    }
+}
+
+// What an option gives room for.
+#[derive(Clone, Copy)]
+enum Room {
+    Lines,
+    Work,
+}
+
+// What an option gives room for, if it is one that does.
+fn room_of(option: &str) -> Option<Room>
+    ensures { result ≡ room_of option.now }
 {
-    matches!(option, "--lines" | "--work")
+    match option {
+        "--lines" => Some(Room::Lines),
+        "--work" => Some(Room::Work),
+        _ => None,
+    }
 }
 
 // The options, with room of one kind as it is given.
-fn given(options: Options, option: &str, words: usize) -> Options
-    ensures { result ≡ with_room options option.now words }
+fn given(options: Options, room: Room, words: usize) -> Options
+    ensures { result ≡ given options room words }
 {
-    match option {
-        "--lines" => Options {
+    match room {
+        Room::Lines => Options {
             lines: words,
-            work: options.work,
+            ..options
         },
-        _ => Options {
-            lines: options.lines,
+        Room::Work => Options {
             work: Some(words),
+            ..options
         },
     }
 }
@@ -56,27 +79,23 @@ fn given(options: Options, option: &str, words: usize) -> Options
 pub fn parse_options(args: &[String]) -> Result<Command, Fault<'_>>
     ensures { chosen_by result ≡ chosen default (map string_bytes args.now) }
 {
-    let mut options = Options {
-        lines: 1_048_576,
-        work: None,
-    };
-    let mut rest = args;
-    while let [option, values @ ..] = rest {
+    let mut options = Options::default();
+    let mut rest = args.iter();
+    while let Some(option) = rest.next() {
         let option = option.as_str();
         if option == "--help" {
             return Ok(Command::Help);
         }
-        if !gives_room(option) {
+        let Some(room) = room_of(option) else {
             return Err(Fault::Unknown(option));
-        }
-        let [value, more @ ..] = values else {
+        };
+        let Some(value) = rest.next() else {
             return Err(Fault::Nothing(option));
         };
         let Some(words) = number(value.as_str()) else {
             return Err(Fault::NoNumber(option, value.as_str()));
         };
-        options = given(options, option, words as usize);
-        rest = more;
+        options = given(options, room, words as usize);
     }
     Ok(Command::Answer(options))
 }

@@ -2,21 +2,21 @@
 ghost use Rattle.std.specs.Prelude.{◌≡◌, is_some, if◌then◌else◌};
 
 // How many words there are room for: for lines, and to lend; as many as a question asks for, if it is not said.
-#[derive(Clone, Copy, PartialEq, Debug)]
+#[derive(Clone, Copy, Debug, PartialEq, Eq)]
 pub struct Options {
     pub lines: usize,
     pub work: Option<usize>,
 }
 
 // To answer questions, or to say how to ask them.
-#[derive(Clone, Copy)]
+#[derive(Clone, Copy, Debug, PartialEq, Eq)]
 pub enum Command {
     Answer(Options),
     Help,
 }
 
 // What is wrong with the arguments.
-#[derive(Clone, Copy)]
+#[derive(Clone, Copy, Debug, PartialEq, Eq)]
 pub enum Fault<'a> {
     Unknown(&'a str),
     NoNumber(&'a str, &'a str),
@@ -24,7 +24,8 @@ pub enum Fault<'a> {
 }
 
 // How much is lent for a question: all that there is, or as much as the rule asks for.
-#[derive(Clone, Copy)]
+// Kept: at a call the names say what a bool, or the Option that they come from, would not.
+#[derive(Clone, Copy, Debug, PartialEq, Eq)]
 pub enum Lending {
     Whole,
     ByRule,

@@ -23,6 +23,8 @@ fn ask_by_rule(words: &[u32], lines: &mut [u32], work: &mut [u32]) -> Compared
 }
 
 // The answer to the words of a question, with all of `work` or as much of it as the rule asks for.
+// Kept: the two ways are known once the arguments are read; a closure for them would want its own clauses in each caller.
+#[tactic(auto, using(crate::proofs::Sizes::at_most_words))]
 pub fn ask(words: &[u32], lines: &mut [u32], work: &mut [u32], lending: Lending) -> Compared
     ensures says { Asks lending words.now (length work.old) lines.old lines.new result }
     ensures most { AtMostWords }

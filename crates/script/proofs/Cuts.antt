@@ -52,10 +52,6 @@ pub named_none : (bs : List ℕ) → ((rest : List ℕ) → bs ≡ 34 ∷ rest �
 named_none [] h e = refl
 named_none (c ∷ bs) h e = sym (cond-false (eqb c 34) _ _ (ne_eqb c 34 (λ q. h bs (ap (λ d. d ∷ bs) q))) ∙ cond-true (eqb (bare (c ∷ bs)) 0) _ _ (eq-eqb (bare (c ∷ bs)) 0 e))
 
--- the cut of a name without quotes came out empty
-pub bare_empty : (bs bytes : List ℕ) (k m : ℕ) → k ≡ bare bytes → bytes ≡ bs → m ≡ k → true ≡ eqb m 0 → bare bs ≡ 0
-bare_empty bs bytes k m a e b h = sym (b ∙ a ∙ ap bare e) ∙ eqb-true m 0 (sym h)
-
 pub named_bare : (bs : List ℕ) → ((rest : List ℕ) → bs ≡ 34 ∷ rest → ⊥) → (bare bs ≡ 0 → ⊥) → word false (take (bare bs) bs) (drop (bare bs) bs) ≡ named bs
 named_bare [] h e = absurd (e refl)
 named_bare (c ∷ bs) h e = sym (cond-false (eqb c 34) _ _ (ne_eqb c 34 (λ q. h bs (ap (λ d. d ∷ bs) q))) ∙ cond-false (eqb (bare (c ∷ bs)) 0) _ _ (ne_eqb (bare (c ∷ bs)) 0 e))

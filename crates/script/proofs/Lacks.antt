@@ -1,5 +1,5 @@
 -- Tests that hold, and lists that lack a byte.
-use Rattle.std.proofs.Common.{◌≡◌, ℕ, zero, suc, ◌<◌, Bool, true, false, not, ◌&&◌, T, eqb, List, [], ◌∷◌, ◌++◌, length, drop, sym, refl, ◌∙◌, subst, arith}
+use Rattle.std.proofs.Common.{◌≡◌, ℕ, zero, suc, ◌<◌, Bool, true, false, not, ◌&&◌, T, eqb, List, [], ◌∷◌, ◌++◌, length, drop, sym, refl, ◌∙◌, arith}
 use Rattle.std.proofs.lemmas.Bool.{false≢true, eq-eqb, not-true, cond_both}
 use Rattle.script.specs.Grammar.{gap, skip}
 use Rattle.script.specs.Printed.{lacks, writable}
@@ -8,9 +8,6 @@ use Rattle.script.proofs.Cuts.{NoQuote}
 pub holds_is : (b : Bool) → T b → b ≡ true
 holds_is true h = refl
 holds_is false h = absurd h
-
-pub holds_from : (b : Bool) → b ≡ true → T b
-holds_from b e = subst T (sym e) tt
 
 pub and_0 : (a b : Bool) → T (a && b) → T a
 and_0 true b h = tt

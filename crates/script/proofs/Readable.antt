@@ -2,13 +2,14 @@
 use Rattle.std.proofs.Common.{◌≡◌, ℕ, suc, ◌<◌, Bool, true, false, cond, not, ◌&&◌, T, eqb, List, [], ◌∷◌, length, take, drop, codes, sym, refl, ap, ◌∙◌, subst, arith}
 use mathlib.Core.Option.{Option, some, none}
 use Rattle.std.specs.Str.{bytes_eq}
+use Rattle.std.proofs.lemmas.Float.{T_from_true}
 use Rattle.std.proofs.lemmas.List.{length-take-le}
 use Rattle.std.proofs.lemmas.Bool.{false≢true, ne_eqb, eqb-false, and_parts, cond_both}
 use Rattle.script.specs.Grammar.{Stated, blank, machine, start, state, arrow, Reading, says, fault, skip, ended, signed, plain, bare, Worded, word, no_word, onto, unquoted, lettered, quoted, named, last, past_button, past_colon, keyed, past_first, headed, reading}
 use Rattle.script.specs.declared.Expected.TheVariants.{Name, Colon, Sign, End}
 use Rattle.script.specs.Printed.{lacks, writable, writable_all}
 use Rattle.script.proofs.Cuts.{bare_le}
-use Rattle.script.proofs.Lacks.{holds_from, and_0, and_1, and_in, lacks_drop, lacks_skip, writable_from}
+use Rattle.script.proofs.Lacks.{and_0, and_1, and_in, lacks_drop, lacks_skip, writable_from}
 
 -- a word with a name that can be written, and no newline after it
 abbrev Good : Worded → Type 0
@@ -25,7 +26,7 @@ Split (some p) = T (lacks 34 p.0) × T (lacks 10 p.0) × T (lacks 10 p.1)
 
 onto_split : (c : ℕ) (o : Option (List ℕ × List ℕ)) → eqb c 34 ≡ false → T (not (eqb c 10)) → Split o → Split (onto c o)
 onto_split c none e h s = tt
-onto_split c (some p) e h s = (and_in (not (eqb c 34)) (lacks 34 p.0) (holds_from (not (eqb c 34)) (ap not e)) s.0, and_in (not (eqb c 10)) (lacks 10 p.0) h s.1, s.2)
+onto_split c (some p) e h s = (and_in (not (eqb c 34)) (lacks 34 p.0) (T_from_true (not (eqb c 34)) (ap not e)) s.0, and_in (not (eqb c 10)) (lacks 10 p.0) h s.1, s.2)
 
 unquoted_split : (bs : List ℕ) → T (lacks 10 bs) → Split (unquoted bs)
 unquoted_split [] h = tt
@@ -51,7 +52,7 @@ bare_lacks d [] k = tt
 bare_lacks d (c ∷ bs) k =
     let ih = bare_lacks d bs k in
     cond_both (plain c && not (signed (c ∷ bs))) (suc (bare bs)) 0 (λ n. T (lacks d (take n (c ∷ bs))))
-    (λ e. and_in (not (eqb c d)) (lacks d (take (bare bs) bs)) (holds_from (not (eqb c d)) (ap not (plain_apart c d (and_parts (plain c) (not (signed (c ∷ bs))) e).0 k))) ih)
+    (λ e. and_in (not (eqb c d)) (lacks d (take (bare bs) bs)) (T_from_true (not (eqb c d)) (ap not (plain_apart c d (and_parts (plain c) (not (signed (c ∷ bs))) e).0 k))) ih)
     (λ _. tt)
 
 named_good : (bs : List ℕ) → T (lacks 10 bs) → Good (named bs)

@@ -1,7 +1,7 @@
 -- A statement that is printed is read again as itself.
 use Rattle.std.proofs.Common.{◌≡◌, ℕ, suc, Bool, true, false, cond, not, ◌&&◌, ◌||◌, T, eqb, List, [], ◌∷◌, ◌++◌, length, get_or, take, drop, codes, sym, refl, ap, ◌∙◌, subst, ⊎_elim, arith}
 use Rattle.std.proofs.lemmas.List.{append_assoc, append-nil, take_at, drop_at}
-use Rattle.std.proofs.lemmas.Bool.{eq-eqb, eqb-true, cond-true, cond-false, cases_Bool, and_parts}
+use Rattle.std.proofs.lemmas.Bool.{eq-eqb, eqb-true, cond-true, cond-false, cases_Bool, and_parts, and_right}
 use Rattle.std.proofs.lemmas.Bool.Decides.{nat_tests}
 use Rattle.script.specs.Grammar.{Stated, Worded, blank, machine, start, state, arrow, says, gap, skip, ended, signed, plain, bare, word, unquoted, lettered, quoted, named, last, past_colon, keyed, past_first, headed, reading}
 use Rattle.script.specs.Printed.{writable, written, printed, ReadsBack}
@@ -23,13 +23,9 @@ bare_stop_0 : (rest : List ℕ) → T (stop rest) → bare rest ≡ 0
 bare_stop_0 [] h = refl
 bare_stop_0 (c ∷ bs) h = ap (λ b. cond (b && not (signed (c ∷ bs))) (suc (bare bs)) 0) (stop_plain c (holds_is (eqb c 58 || eqb c 32) h))
 
-and_false : (a b : Bool) → b ≡ false → (a && b) ≡ false
-and_false true b h = h
-and_false false b h = refl
-
 signed_append : (c : ℕ) (n rest : List ℕ) → T (stop rest) → signed (c ∷ (n ++ rest)) ≡ signed (c ∷ n)
 signed_append c [] [] h = refl
-signed_append c [] (d ∷ bs) h = and_false (eqb c 45) (eqb d 62) (stop_sign d (holds_is (eqb d 58 || eqb d 32) h))
+signed_append c [] (d ∷ bs) h = and_right (eqb c 45) (eqb d 62) (stop_sign d (holds_is (eqb d 58 || eqb d 32) h))
 signed_append c (d ∷ n) rest h = refl
 
 cond_suc : (b : Bool) (m k : ℕ) → cond b (suc m) 0 ≡ suc k → (b ≡ true) × (m ≡ k)

@@ -14,7 +14,7 @@ mod line;
 mod word;
 
 // What a line says.
-#[derive(Clone, Copy)]
+#[derive(Clone, Copy, Debug, PartialEq, Eq)]
 pub enum Statement<'a> {
     Blank,
     Machine(&'a str),
@@ -24,7 +24,7 @@ pub enum Statement<'a> {
 }
 
 // What should have stood there.
-#[derive(Clone, Copy)]
+#[derive(Clone, Copy, Debug, PartialEq, Eq)]
 pub enum Expected {
     Name,
     Letters,
@@ -35,13 +35,24 @@ pub enum Expected {
 }
 
 // What was expected, and what is left of the line from there on.
-#[derive(Clone, Copy)]
+#[derive(Clone, Copy, Debug, PartialEq, Eq)]
 pub struct Fault<'a> {
     pub expected: Expected,
     pub found: &'a str,
 }
 
 impl Expected {
+    // A fault: this was expected, and that was found.
+    fn at(self, found: &str) -> Fault<'_>
+        ensures expected { result.expected ≡ self }
+        ensures found { result.found.now ≡ found.now }
+    {
+        Fault {
+            expected: self,
+            found,
+        }
+    }
+
     // What was expected, in plain words.
     fn words(self) -> &'static str
         ensures { result.now ≡ expectation self }
@@ -68,6 +79,7 @@ impl fmt::Display for Expected {
 }
 
 // What a line says, or what is expected where.
+#[tactic(auto, unfolding(crate::specs::Grammar::reading))]
 pub fn parse_line(line: &str) -> Result<Statement<'_>, Fault<'_>>
     ensures { meaning result ≡ reading line.now }
 {
@@ -84,6 +96,7 @@ pub fn parse_line(line: &str) -> Result<Statement<'_>, Fault<'_>>
 }
 
 // Appends a name as it is written: bare where that is read as one, else in quotes.
+#[tactic(auto, using(crate::proofs::Roundtrip::reading_printed))]
 pub fn push_name(out: &mut String, name: &str) -> Result<(), AllocError>
     ensures bytes { OnOk result (string_bytes out.new ≡ string_bytes out.old ++ written name.now) }
     ensures again { ReadsBack }

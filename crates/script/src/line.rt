@@ -20,10 +20,7 @@ fn last_name(text: &str) -> Result<&str, Fault<'_>>
     let word = first_word(text)?;
     let left = skip_gap(word.rest);
     if !is_ended(left) {
-        return Err(Fault {
-            expected: Expected::End,
-            found: left,
-        });
+        return Err(Expected::End.at(left));
     }
     Ok(word.name)
 }
@@ -35,10 +32,7 @@ pub fn arrow_from<'a>(state: &'a str, text: &'a str) -> Result<Statement<'a>, Fa
     let button = first_word(skip_gap(text))?;
     let at = skip_gap(button.rest);
     let Some(target) = at.strip_prefix("->") else {
-        return Err(Fault {
-            expected: Expected::Sign,
-            found: at,
-        });
+        return Err(Expected::Sign.at(at));
     };
     Ok(Statement::Arrow(state, button.name, last_name(skip_gap(target))?))
 }
@@ -48,18 +42,12 @@ pub fn keyed_name<'a>(first: Word<'a>, at: &'a str) -> Result<Statement<'a>, Fau
     ensures { meaning result ≡ keyed first.entry.quoted first.entry.name.now at.now }
 {
     if first.quoted {
-        return Err(Fault {
-            expected: Expected::Colon,
-            found: at,
-        });
+        return Err(Expected::Colon.at(at));
     }
     match first.name {
         "machine" => Ok(Statement::Machine(last_name(at)?)),
         "start" => Ok(Statement::Start(last_name(at)?)),
         "state" => Ok(Statement::State(last_name(at)?)),
-        _ => Err(Fault {
-            expected: Expected::Colon,
-            found: at,
-        }),
+        _ => Err(Expected::Colon.at(at)),
     }
 }
