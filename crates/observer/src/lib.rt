@@ -14,4 +14,5 @@ pub use compared::compare;
 pub use comparison::Compared;
 pub use measured::measure;
 pub use reading::read;
+pub use room::to_lend;
 pub use unanswered::Unanswered;
