@@ -3,7 +3,7 @@ ghost use Rattle.std.specs.Prelude.{length};
 ghost use Rattle.query.specs.Asking.{AtMostWords, Asks, AsksByRule};
 
 use crate::plan::Lending;
-use observer::{Compared, compare};
+use observer::{Compared, compare, to_lend};
 
 // A question has at most so many words: two, three for each of 16,384 transitions, and two.
 pub const MOST_WORDS: usize = 49_156;
@@ -18,7 +18,7 @@ fn ask_by_rule(words: &[u32], lines: &mut [u32], work: &mut [u32]) -> Compared
     if words.len() > MOST_WORDS {
         return Compared::NoMachine;
     }
-    let end = work.len().min(65_536 + 128 * words.len());
+    let end = work.len().min(to_lend(words.len()));
     compare(words, lines, &mut work[0..end])
 }
 
