@@ -51,11 +51,9 @@ impl fmt::Display for Count {
         if n < 1_000 || n >= 1_000_000 {
             return write!(f, "{n}");
         }
-        let thousands = n / 1000;
-        let hundreds = n / 100 % 10;
-        let tens = n / 10 % 10;
-        let ones = n % 10;
-        write!(f, "{thousands},{hundreds}{tens}{ones}")
+        let thousands = n / 1_000;
+        let rest = n % 1_000;
+        write!(f, "{thousands},{rest:03}")
     }
 }
 
