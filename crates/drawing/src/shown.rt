@@ -5,22 +5,14 @@ ghost use Rattle.drawing.specs.Shown.{until, first_word, finding, grouped, reaso
 use crate::{Reason, Refusal, Trouble};
 use std::fmt;
 
-// What stands before the first `mark`.
-fn before(text: &str, mark: char) -> &str
-    requires { mark < 128 }
-    ensures { result.now ≡ until mark text.now }
-{
-    match text.split_once(mark) {
-        Some((first, _)) => first,
-        None => text,
-    }
-}
-
 // The first word, up to white space.
 fn first_word(text: &str) -> &str
     ensures { result.now ≡ first_word text.now }
 {
-    before(before(before(text, ' '), '\t'), '\r')
+    match text.split_once([' ', '\t', '\r']) {
+        Some((word, _)) => word,
+        None => text,
+    }
 }
 
 // What was found on a line.

@@ -15,6 +15,7 @@ use script::push_name;
 use std::alloc::AllocError;
 
 // The name with the number `i`, or nothing.
+// Kept: a drawing's numbers are those of names, but unwrap would ask that of each call.
 pub fn name_at(table: &Names, i: usize) -> &str
     ensures { result.now ≡ slice_index_or (names table.now) i [] }
 {

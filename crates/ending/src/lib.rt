@@ -6,6 +6,7 @@ ghost use Rattle.std.specs.Process.{exit_status};
 ghost use Rattle.ending.specs.declared.Stop.TheVariants.{Output, Memory};
 
 use std::alloc::AllocError;
+use std::fmt::Display;
 use std::io;
 use std::process::ExitCode;
 
@@ -18,6 +19,7 @@ pub enum Stop {
     Memory,
 }
 
+// Kept: by hand, since clauses name the error, and a derived From has no contract.
 impl From<io::Error> for Stop {
     ghost from_gives = { λ e r. r ≡ Output e };
 
@@ -26,11 +28,22 @@ impl From<io::Error> for Stop {
     }
 }
 
+// Kept: by hand, as the one above.
 impl From<AllocError> for Stop {
     ghost from_gives = { λ _ r. r ≡ Memory };
 
     fn from(_e: AllocError) -> Stop {
         Stop::Memory
+    }
+}
+
+// Says what is wrong, after the program's name, and gives why the run stops: that it has been said, or can't be.
+pub fn said(rt: &impl Eprint, program: &str, wrong: impl Display + Drop) -> Stop
+    ensures { result ≢ Stop.Memory }
+{
+    match eprintln!(rt; "{program}: {wrong}") {
+        Ok(()) => Stop::Said,
+        Err(e) => Stop::from(e),
     }
 }
 
