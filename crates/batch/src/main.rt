@@ -1,19 +1,21 @@
 // Answers questions by words, one question a line: batch [--lines WORDS] [--work WORDS].
 #![tactic(auto)]
 
-ghost use Rattle.std.specs.Prelude.{◌≡◌, ◌≢◌, IsOk, IsErr, IsOkAnd, IsErrAnd, Err};
-ghost use Rattle.std.specs.Process.{exit_status};
-
+use ending::{Stop, ended, said};
 use query::{
     Answer, Command, Lending, MOST_LENT, MOST_WORDS, Options, ask, parse_options, read_words,
 };
-use std::alloc::AllocError;
+use std::alloc::{AllocError, Global};
+use std::env;
 use std::io::{BufRead, BufReader, BufWriter, ErrorKind, Write};
 use std::process::ExitCode;
-use std::{env, io};
 
 #[cfg(test)]
 mod compare_tests;
+#[cfg(test)]
+mod measure_tests;
+#[cfg(test)]
+mod questions;
 #[cfg(test)]
 mod tests;
 
@@ -45,127 +47,79 @@ from 0.
                      not given
 ";
 
-// Why no more is answered.
-#[derive(Debug, Drop)]
-enum Stop {
-    // what is wrong has been said
-    Said,
-    Stream(io::Error),
-    Memory,
-}
-
-impl From<io::Error> for Stop {
-    fn from(e: io::Error) -> Stop {
-        Stop::Stream(e)
-    }
-}
-
-impl From<AllocError> for Stop {
-    fn from(_e: AllocError) -> Stop {
-        Stop::Memory
-    }
-}
-
-// The words that are lent to answer.
+// The words of a question, and those that are lent to answer it.
 #[derive(Drop)]
 struct Lent {
+    words: Vec<u32>,
     lines: Vec<u32>,
     work: Vec<u32>,
     lending: Lending,
 }
 
-// Writes the answer to a line.
-fn answer<W: Write>(
-    out: &mut W,
-    line: &str,
-    words: &mut Vec<u32>,
-    lent: &mut Lent,
-) -> Result<(), Stop> {
-    if let Err(none) = read_words(line, words)? {
-        writeln!(out, "{none}")?;
-        return Ok(());
+impl Lent {
+    // As many as the options say.
+    fn new(heap: Global, options: Options) -> Result<Lent, AllocError> {
+        Ok(Lent {
+            words: Vec::with_capacity(heap, MOST_WORDS)?,
+            lines: vec![in heap; 0u32; options.lines]?,
+            work: vec![in heap; 0u32; options.work.unwrap_or(MOST_LENT)]?,
+            lending: options.lending(),
+        })
     }
-    let compared = ask(
-        words.as_slice(),
-        lent.lines.as_mut_slice(),
-        lent.work.as_mut_slice(),
-        lent.lending,
-    );
-    let answer = Answer {
-        compared,
-        lines: lent.lines.as_slice(),
-    };
-    writeln!(out, "{answer}")?;
-    Ok(())
+
+    // Writes the answer to a line.
+    fn answer<W: Write>(&mut self, out: &mut W, line: &str) -> Result<(), Stop> {
+        if let Err(none) = read_words(line, &mut self.words)? {
+            return Ok(writeln!(out, "{none}")?);
+        }
+        let compared = ask(
+            self.words.as_slice(),
+            self.lines.as_mut_slice(),
+            self.work.as_mut_slice(),
+            self.lending,
+        );
+        let answer = Answer {
+            compared,
+            lines: self.lines.as_slice(),
+        };
+        Ok(writeln!(out, "{answer}")?)
+    }
 }
 
 // Answers each line.
 fn answer_all(rt: &HostRuntime, options: Options) -> Result<(), Stop> {
     let heap = rt.alloc();
-    let mut words = Vec::with_capacity(heap, MOST_WORDS)?;
-    let mut lent = Lent {
-        lines: vec![in heap; 0u32; options.lines]?,
-        work: vec![in heap; 0u32; options.work.unwrap_or(MOST_LENT)]?,
-        lending: options.lending(),
-    };
+    let mut lent = Lent::new(heap, options)?;
     let mut out = BufWriter::new(heap, rt.stdout())?;
     for line in BufReader::new(heap, rt.stdin())?.lines(heap) {
         match line {
-            Ok(line) => answer(&mut out, line.as_str(), &mut words, &mut lent)?,
-            Err(e) => {
-                if e.kind() != ErrorKind::InvalidData {
-                    return Err(Stop::Stream(e));
-                }
-                writeln!(
-                    out,
-                    "no words: found a byte that is no UTF-8, expected numbers"
-                )?;
-            }
+            Ok(line) => lent.answer(&mut out, line.as_str())?,
+            Err(e) if e.kind() == ErrorKind::InvalidData => writeln!(
+                out,
+                "no words: found a byte that is no UTF-8, expected numbers"
+            )?,
+            Err(e) => return Err(Stop::from(e)),
         }
     }
-    out.flush()?;
-    Ok(())
+    Ok(out.flush()?)
 }
 
 // Says why no more is answered.
-fn report(rt: &HostRuntime, stop: Stop) -> Result<(), Stop> {
+fn report(rt: &HostRuntime, stop: Stop) -> Stop {
     match stop {
-        Stop::Stream(e) => eprintln!(rt; "batch: {e}")?,
-        Stop::Memory => eprintln!(rt; "batch: there is not enough memory")?,
-        Stop::Said => {}
+        Stop::Said => Stop::Said,
+        Stop::Output(e) => said(rt, "batch", e),
+        Stop::Memory => said(rt, "batch", "there is not enough memory"),
     }
-    Err(Stop::Said)
 }
 
 // Does what the arguments ask for.
 fn run(rt: &HostRuntime) -> Result<(), Stop> {
     let args: Vec<String> = env::args(rt)?.skip(1).collect(rt.alloc())?;
     match parse_options(args.as_slice()) {
-        Ok(Command::Help) => {
-            rt.print(HELP)?;
-            Ok(())
-        }
-        Ok(Command::Answer(options)) => match answer_all(rt, options) {
-            Ok(()) => Ok(()),
-            Err(stop) => report(rt, stop),
-        },
-        Err(fault) => {
-            eprintln!(rt; "batch: {fault}")?;
-            Err(Stop::Said)
-        }
-    }
-}
-
-// How a run ends the program: what has been said is not said again; another error goes to who runs `main`, which prints it.
-fn ended(run: Result<(), Stop>) -> Result<ExitCode, Stop>
-    ensures done { IsOk run → IsOkAnd result (λ c. exit_status c ≡ 0) }
-    ensures said { run ≡ Err Stop.Said → IsOkAnd result (λ c. exit_status c ≡ 1) }
-    ensures other { IsErr run → run ≢ Err Stop.Said → IsErrAnd result (λ e. run ≡ Err e) }
-{
-    match run {
-        Ok(()) => Ok(ExitCode::SUCCESS),
-        Err(Stop::Said) => Ok(ExitCode::FAILURE),
-        Err(stop) => Err(stop),
+        Ok(Command::Help) => Ok(rt.print(HELP)?),
+        Ok(Command::Answer(options)) => answer_all(rt, options).map_err(|stop| report(rt, stop)),
+        Err(fault) => Err(said(rt, "batch", fault)),
     }
 }
 

@@ -1,5 +1,6 @@
 -- The words of two drawings encode the question of both.
 use Rattle.std.proofs.Common.{◌≡◌, ℕ, ◌+◌, ◌<◌, ◌≤◌, T, List, [], ◌∷◌, ◌++◌, map, length, get_or, unwrap_or, sym, ap, ◌∙◌, append_assoc, arith, length-append}
+use Rattle.std.proofs.lemmas.Bool.Decides.{nat_tests}
 use Rattle.std.proofs.lemmas.List.{length-map}
 use Rattle.lts.specs.Question.{Encodes, transition_words}
 use Rattle.lts.proofs.Encoding.{transition_words_append}
@@ -7,10 +8,9 @@ use Rattle.drawing.specs.Arrows.{within}
 use Rattle.drawing.specs.Model.{Plan}
 use Rattle.names.specs.Places.{Name, noted_all}
 use Rattle.names.proofs.Placed.{place_at}
-use Rattle.beside.specs.Asks.{labels, relabelled, both_words, Ready}
+use Rattle.beside.specs.Asks.{labels, relabelled, both_words, Noting, Ready}
 use Rattle.beside.specs.Joined.{buttons_of_both, label_of, moved, joined, OneLabel}
-use Rattle.beside.proofs.Labelled.{labels_at, length_labels}
-use Rattle.drawing.proofs.Fits.{T-lt, T-le, T-join}
+use Rattle.beside.proofs.Labelling.{labels_at, length_labels}
 use Rattle.beside.proofs.Moves.{moved_all, inside_all, inside_append}
 
 -- what is known of a drawing
@@ -34,21 +34,26 @@ module _ (start own more : List Name) where
   pub small : length all ≤ 64 → (j : ℕ) → j < length (labels start own) → get_or (labels start own) j 0 < 64
   small few j h = let l : j < length own = omega (arith, length_labels start own) in omega (arith, labelled j l, below few j l)
 
-module _ (p q : Plan) (sp : Sound p) (sq : Sound q) (few : length p.states + length q.states ≤ 4096) (fewer : length p.arrows + length q.arrows ≤ 16384) (labels-few : length (buttons_of_both p q) ≤ 64) where
-  abbrev ls : List ℕ
-  ls = labels [] p.buttons
+-- two drawings whose buttons were noted in turn, and which are few enough together
+module _ (p q : Plan) (sp : Sound p) (sq : Sound q) {some all : List Name} {ls ms : List ℕ} (one : Noting [] p.buttons some ls) (two : Noting some q.buttons all ms)
+    (few : length p.states + length q.states ≤ 4096) (fewer : length p.arrows + length q.arrows ≤ 16384) (labels-few : length all ≤ 64) where
+  of_both : length (buttons_of_both p q) ≤ 64
+  of_both = omega (arith, ap length (two.table ∙ ap (λ xs. noted_all xs q.buttons) one.table))
 
-  abbrev ms : List ℕ
-  ms = labels (noted_all [] p.buttons) q.buttons
+  first : ls ≡ labels [] p.buttons
+  first = one.given
+
+  second : ms ≡ labels (noted_all [] p.buttons) q.buttons
+  second = two.given ∙ ap (λ xs. labels xs q.buttons) one.table
 
   pub ready : Ready p q ls ms
   ready = record {
     states = few;
     arrows = fewer;
-    first_labels = length_labels [] p.buttons;
-    second_labels = length_labels (noted_all [] p.buttons) q.buttons;
-    first_small = small [] p.buttons q.buttons labels-few;
-    second_small = small (noted_all [] p.buttons) q.buttons [] labels-few;
+    first_labels = ap length first ∙ length_labels [] p.buttons;
+    second_labels = ap length second ∙ length_labels (noted_all [] p.buttons) q.buttons;
+    first_small = rw first (small [] p.buttons q.buttons of_both);
+    second_small = rw second (small (noted_all [] p.buttons) q.buttons [] of_both);
   }
 
   pub encodes_both : Encodes (both_words p q ls ms) (joined p q)
@@ -59,19 +64,18 @@ module _ (p q : Plan) (sp : Sound p) (sq : Sound q) (few : length p.states + len
       let union = buttons_of_both p q in
       let ts = map (moved 0 union p.buttons) p.arrows in
       let us = map (moved n union q.buttons) q.arrows in
-      let front : map (relabelled 0 ls) p.arrows ≡ ts = moved_all 0 n union p.buttons ls p.arrows sp.arrows (labelled [] p.buttons q.buttons) in
-      let back : map (relabelled n ms) q.arrows ≡ us = moved_all n (length q.states) union q.buttons ms q.arrows sq.arrows (labelled (noted_all [] p.buttons) q.buttons []) in
+      let front : map (relabelled 0 ls) p.arrows ≡ ts = moved_all 0 n union p.buttons ls p.arrows sp.arrows (rw first (labelled [] p.buttons q.buttons)) in
+      let back : map (relabelled n ms) q.arrows ≡ us = moved_all n (length q.states) union q.buttons ms q.arrows sq.arrows (rw second (labelled (noted_all [] p.buttons) q.buttons [])) in
       let count : length (ts ++ us) ≡ length p.arrows + length q.arrows = length-append ts us ∙ (λ i. length-map p.arrows (moved 0 union p.buttons) i + length-map q.arrows (moved n union q.buttons) i) in
       let end = p.start ∷ (n + q.start) ∷ [] in
       record {
         is = (λ i. total ∷ sym count i ∷ (transition_words (front i) ++ (transition_words (back i) ++ end)))
             ∙ ap (λ ws. total ∷ length (ts ++ us) ∷ ws) (sym (append_assoc (transition_words ts) (transition_words us) end) ∙ ap (λ ws. ws ++ end) (sym (transition_words_append ts us)));
-        fine = T-join _ _ (T-join _ _ (T-le 1 total (omega (arith, sp.start))) (T-le total 4096 few))
-            (T-join _ _
-            (T-join _ _ (T-le (length (ts ++ us)) 16384 (omega (arith, count))) (inside_append total ts us
-            (inside_all 0 n total union p.buttons p.arrows sp.arrows (omega arith) (below [] p.buttons q.buttons labels-few))
-            (inside_all n (length q.states) total union q.buttons q.arrows sq.arrows (omega arith) (below (noted_all [] p.buttons) q.buttons [] labels-few))))
-            (T-join _ _ (T-lt p.start total (omega (arith, sp.start))) (T-lt (n + q.start) total (omega (arith, sq.start)))));
+        fine =
+            let first = inside_all 0 n total union p.buttons p.arrows sp.arrows (omega arith) (below [] p.buttons q.buttons of_both) in
+            let second = inside_all n (length q.states) total union q.buttons q.arrows sq.arrows (omega arith) (below (noted_all [] p.buttons) q.buttons [] of_both) in
+            let all = inside_append total ts us first second in
+            grind (arith, nat_tests, sp.start, sq.start, count);
       }
 
 -- equal labels are equal places, where the same name stands

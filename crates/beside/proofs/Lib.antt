@@ -1,3 +1,3 @@
-pub mod Labelled
+pub mod Labelling
 pub mod Moves
 pub mod Both

@@ -1,12 +1,13 @@
 -- The transitions of a drawing, as words and as transitions of both.
 use Rattle.std.proofs.Common.{◌≡◌, ℕ, ◌+◌, ◌<◌, ◌≤◌, T, List, [], ◌∷◌, ◌++◌, map, length, get_or, take, sym, refl, ap, ◌∙◌, append_assoc, arith}
 use Rattle.std.proofs.lemmas.List.{map_more}
+use Rattle.std.proofs.lemmas.Bool.Decides.{nat_tests}
 use Rattle.lts.specs.declared.Transition.{Transition}
 use Rattle.lts.specs.Question.{transition_words, within as inside}
 use Rattle.lts.proofs.Encoding.{transition_words_append}
 use Rattle.drawing.specs.declared.plan.Arrow.{Arrow}
-use Rattle.drawing.specs.Arrows.{fits, within}
-use Rattle.drawing.proofs.Fits.{T-both, T-join, T-lt, fits_parts, within_at}
+use Rattle.drawing.specs.Arrows.{within}
+use Rattle.drawing.proofs.Fits.{fits_parts, within_parts, within_at}
 use Rattle.names.specs.Places.{Name}
 use Rattle.beside.specs.Asks.{no_arrow, relabelled, Movable}
 use Rattle.beside.specs.Joined.{label_of, moved}
@@ -23,25 +24,23 @@ words_more f rs i before now after h e g =
 pub moved_all : (shift n : ℕ) (all own : List Name) (ls : List ℕ) (rs : List Arrow) → T (within n (length own) rs) → ((j : ℕ) → j < length own → get_or ls j 0 ≡ label_of all (get_or own j [])) → map (relabelled shift ls) rs ≡ map (moved shift all own) rs
 moved_all shift n all own ls [] h e = refl
 moved_all shift n all own ls (a ∷ rs) h e =
-    let both = T-both (fits n (length own) a) (within n (length own) rs) h in
-    let here = e a.button (fits_parts n (length own) a both.0).1 in
-    let rest = moved_all shift n all own ls rs both.1 e in
+    let parts = within_parts n (length own) a rs h in
+    let here = e a.button parts.1 in
+    let rest = moved_all shift n all own ls rs parts.3 e in
     cc
 
 -- moved transitions go between the states of both, by labels that there are
 pub inside_all : (shift n total : ℕ) (all own : List Name) (rs : List Arrow) → T (within n (length own) rs) → shift + n ≤ total → ((j : ℕ) → j < length own → label_of all (get_or own j []) < 64) → T (inside total (map (moved shift all own) rs))
 inside_all shift n total all own [] h le e = tt
 inside_all shift n total all own (a ∷ rs) h le e =
-    let both = T-both (fits n (length own) a) (within n (length own) rs) h in
-    let p = fits_parts n (length own) a both.0 in
-    let t = moved shift all own a in
-    T-join _ _
-    (T-join _ _ (T-lt t.source total (omega (arith, p.0))) (T-join _ _ (T-lt t.target total (omega (arith, p.2))) (T-lt t.label 64 (e a.button p.1))))
-    (inside_all shift n total all own rs both.1 le e)
+    let parts = within_parts n (length own) a rs h in
+    let here = e a.button parts.1 in
+    let rest = inside_all shift n total all own rs parts.3 le e in
+    grind (arith, nat_tests)
 
 pub inside_append : (total : ℕ) (ts us : List Transition) → T (inside total ts) → T (inside total us) → T (inside total (ts ++ us))
 inside_append total [] us h k = k
-inside_append total (t ∷ ts) us h k = let both = T-both _ _ h in T-join _ _ both.0 (inside_append total ts us both.1 k)
+inside_append total (t ∷ ts) us h k = grind (arith, nat_tests, inside_append total ts us)
 
 -- a drawing's transitions can be moved where each of its buttons has a label
 pub movable_all : (shift n b : ℕ) (ls : List ℕ) (rs : List Arrow) → T (within n b rs) → shift + n ≤ 4096 → length ls ≡ b → ((j : ℕ) → j < length ls → get_or ls j 0 < 64) → (i : ℕ) → i < length rs → Movable shift ls (get_or rs i no_arrow)
@@ -50,10 +49,3 @@ movable_all shift n b ls rs h le e small i l =
     let p = fits_parts n b a (within_at n b rs no_arrow i h l) in
     let labelled : a.button < length ls = omega (arith, p.1) in
     record { source = omega (arith, p.0); target = omega (arith, p.2); labelled = labelled; label = omega (arith, small a.button labelled) }
-
--- six pieces, each put at the end of those before it
-pub pieces : (a b s t : ℕ) (x y w0 w1 w2 w3 w4 w5 w6 : List ℕ) → w0 ≡ [] → w1 ≡ w0 ++ (a ∷ []) → w2 ≡ w1 ++ (b ∷ []) → w3 ≡ w2 ++ x → w4 ≡ w3 ++ y → w5 ≡ w4 ++ (s ∷ []) → w6 ≡ w5 ++ (t ∷ []) → w6 ≡ a ∷ b ∷ (x ++ (y ++ (s ∷ t ∷ [])))
-pieces a b s t x y w0 w1 w2 w3 w4 w5 w6 e0 e1 e2 e3 e4 e5 e6 =
-    let two : w2 ≡ a ∷ b ∷ [] = e2 ∙ ap (λ w. w ++ (b ∷ [])) (e1 ∙ ap (λ w. w ++ (a ∷ [])) e0) in
-    let four : w4 ≡ a ∷ b ∷ (x ++ y) = e4 ∙ ap (λ w. w ++ y) (e3 ∙ ap (λ w. w ++ x) two) in
-    e6 ∙ ap (λ w. w ++ (t ∷ [])) (e5 ∙ ap (λ w. w ++ (s ∷ [])) four) ∙ ap (λ w. a ∷ b ∷ w) (simp append_assoc)

@@ -1,9 +1,11 @@
 -- What a text draws is drawn again by the text of that drawing.
-use Rattle.std.proofs.Common.{◌≡◌, ℕ, ◌+◌, ◌≤◌, cond, ltb, List, [], ◌∷◌, ◌++◌, map, length, get_or, Some, None, Option, sym, refl, ap, ◌∙◌, subst, append-nil, arith}
+use Rattle.std.proofs.Common.{◌≡◌, ℕ, ◌+◌, ◌≤◌, List, [], ◌∷◌, ◌++◌, map, length, get_or, Some, None, Option, sym, refl, ap, ◌∙◌, subst, append-nil, arith}
 use Rattle.std.specs.Option.{option_map, option_to_list}
 use Rattle.std.specs.List.{flat_map, AllByRecursion as All}
+use Rattle.std.proofs.lemmas.List.Concat.{flat_map-append, flat_map_single}
+use Rattle.std.proofs.lemmas.List.Folds.{flat_map-map}
 use Rattle.std.proofs.lemmas.List.{map-id}
-use Rattle.std.proofs.lemmas.Bool.{le-ltb}
+use Rattle.std.proofs.lemmas.Bool.Decides.{nat_tests}
 use Rattle.names.specs.Places.{Name, place, noted_all, Distinct}
 use Rattle.names.proofs.Placed.{place_own}
 use Rattle.names.proofs.Turns.{noted_all_append, noted_known, noted_own}
@@ -11,22 +13,16 @@ use Rattle.script.specs.Grammar.{Stated, blank, machine, start, state, arrow, sa
 use Rattle.drawing.specs.declared.plan.Arrow.{Arrow}
 use Rattle.drawing.specs.Facts.{said, title_in, start_in, states_in, buttons_in, arrows_in, spelled, Within, Faithful}
 use Rattle.drawing.specs.Lines.{lines_of}
-use Rattle.drawing.specs.Model.{Draft, Plan, too_many_states, too_many_arrows, too_many_buttons, draws, clear, excess, closed, found, begun, finish, drawn}
+use Rattle.drawing.specs.Model.{Draft, Plan, draws, clear, excess, closed, found, begun, finish, drawn}
 use Rattle.drawing.specs.Written.{statements_of, text_of, RoundTrip}
 use Rattle.drawing.proofs.Believed.{faithful}
 use Rattle.drawing.proofs.Built.{Built, built_none}
 use Rattle.drawing.proofs.Complete.{complete}
-use Rattle.drawing.proofs.Wording.{joined_append}
 use Rattle.drawing.proofs.Writable.{statements_writable, lines_written, reads_written}
 
-module _ {X Y Z : Type 0} (f : Y → List Z) (g : X → Y) where
-  quiet : ((x : X) → f (g x) ≡ []) → (xs : List X) → flat_map f (map g xs) ≡ []
-  quiet h [] = refl
-  quiet h (x ∷ xs) = ap (λ l. l ++ flat_map f (map g xs)) (h x) ∙ quiet h xs
-
-  single : (k : X → Z) → ((x : X) → f (g x) ≡ k x ∷ []) → (xs : List X) → flat_map f (map g xs) ≡ map k xs
-  single k h [] = refl
-  single k h (x ∷ xs) = ap (λ l. l ++ flat_map f (map g xs)) (h x) ∙ ap (λ l. k x ∷ l) (single k h xs)
+quiet : {X Y Z : Type 0} (f : Y → List Z) (g : X → Y) → ((x : X) → f (g x) ≡ []) → (xs : List X) → flat_map f (map g xs) ≡ []
+quiet f g h [] = refl
+quiet f g h (x ∷ xs) = ap (λ l. l ++ flat_map f (map g xs)) (h x) ∙ quiet f g h xs
 
 -- the statements of a drawing, and the line after the last newline
 abbrev all_of : Plan → List Stated
@@ -40,13 +36,13 @@ arrows_of p = map (spelled p.states p.buttons) p.arrows
 
 parts : {A : Type 0} (f : Stated → List A) (p : Plan) → f blank ≡ [] → flat_map f (all_of p) ≡ flat_map f (map machine (option_to_list p.title)) ++ (f (start (start_of p)) ++ (flat_map f (map state p.states) ++ flat_map f (arrows_of p)))
 parts f p h =
-    joined_append f (statements_of p) (blank ∷ []) ∙ ap (λ l. flat_map f (statements_of p) ++ (l ++ [])) h ∙ append-nil (flat_map f (statements_of p))
-    ∙ joined_append f (map machine (option_to_list p.title)) (start (start_of p) ∷ (map state p.states ++ arrows_of p))
-    ∙ ap (λ l. flat_map f (map machine (option_to_list p.title)) ++ (f (start (start_of p)) ++ l)) (joined_append f (map state p.states) (arrows_of p))
+    flat_map-append f (statements_of p) (blank ∷ []) ∙ ap (λ l. flat_map f (statements_of p) ++ (l ++ [])) h ∙ append-nil (flat_map f (statements_of p))
+    ∙ flat_map-append f (map machine (option_to_list p.title)) (start (start_of p) ∷ (map state p.states ++ arrows_of p))
+    ∙ ap (λ l. flat_map f (map machine (option_to_list p.title)) ++ (f (start (start_of p)) ++ l)) (flat_map-append f (map state p.states) (arrows_of p))
 
 titles_again : (p : Plan) → flat_map title_in (all_of p) ≡ option_to_list p.title
 titles_again p =
-    let a : flat_map title_in (map machine (option_to_list p.title)) ≡ option_to_list p.title = single title_in machine (λ n. n) (λ n. refl) (option_to_list p.title) ∙ map-id (option_to_list p.title) in
+    let a : flat_map title_in (map machine (option_to_list p.title)) ≡ option_to_list p.title = flat_map-map title_in machine (option_to_list p.title) ∙ flat_map_single (λ n. n) (option_to_list p.title) ∙ map-id (option_to_list p.title) in
     let b : flat_map title_in (map state p.states) ≡ [] = quiet title_in state (λ n. refl) p.states in
     let c : flat_map title_in (arrows_of p) ≡ [] = quiet title_in (spelled p.states p.buttons) (λ n. refl) p.arrows in
     parts title_in p refl ∙ ap (λ l. l ++ (flat_map title_in (map state p.states) ++ flat_map title_in (arrows_of p))) a
@@ -63,7 +59,7 @@ starts_again p =
 states_again : (p : Plan) → flat_map states_in (all_of p) ≡ p.states ++ flat_map states_in (arrows_of p)
 states_again p =
     let a : flat_map states_in (map machine (option_to_list p.title)) ≡ [] = quiet states_in machine (λ n. refl) (option_to_list p.title) in
-    let b : flat_map states_in (map state p.states) ≡ p.states = single states_in state (λ n. n) (λ n. refl) p.states ∙ map-id p.states in
+    let b : flat_map states_in (map state p.states) ≡ p.states = flat_map-map states_in state p.states ∙ flat_map_single (λ n. n) p.states ∙ map-id p.states in
     parts states_in p refl ∙ ap (λ l. l ++ (flat_map states_in (map state p.states) ++ flat_map states_in (arrows_of p))) a
     ∙ ap (λ l. l ++ flat_map states_in (arrows_of p)) b
 
@@ -71,7 +67,7 @@ arrows_again : (p : Plan) → flat_map arrows_in (all_of p) ≡ arrows_of p
 arrows_again p =
     let a : flat_map arrows_in (map machine (option_to_list p.title)) ≡ [] = quiet arrows_in machine (λ n. refl) (option_to_list p.title) in
     let b : flat_map arrows_in (map state p.states) ≡ [] = quiet arrows_in state (λ n. refl) p.states in
-    let c : flat_map arrows_in (arrows_of p) ≡ arrows_of p = single arrows_in (spelled p.states p.buttons) (spelled p.states p.buttons) (λ n. refl) p.arrows in
+    let c : flat_map arrows_in (arrows_of p) ≡ arrows_of p = flat_map-map arrows_in (spelled p.states p.buttons) p.arrows ∙ flat_map_single (spelled p.states p.buttons) p.arrows in
     parts arrows_in p refl ∙ ap (λ l. l ++ (flat_map arrows_in (map state p.states) ++ flat_map arrows_in (arrows_of p))) a
     ∙ ap (λ l. l ++ flat_map arrows_in (arrows_of p)) b ∙ c
 
@@ -85,7 +81,7 @@ button_of (arrow s b t) = refl
 -- buttons are those of the transitions
 buttons_of : (ss : List Stated) → flat_map buttons_in ss ≡ flat_map buttons_in (flat_map arrows_in ss)
 buttons_of [] = refl
-buttons_of (s ∷ ss) = ap (λ l. l ++ flat_map buttons_in ss) (button_of s) ∙ ap (λ l. flat_map buttons_in (arrows_in s) ++ l) (buttons_of ss) ∙ sym (joined_append buttons_in (arrows_in s) (flat_map arrows_in ss))
+buttons_of (s ∷ ss) = ap (λ l. l ++ flat_map buttons_in ss) (button_of s) ∙ ap (λ l. flat_map buttons_in (arrows_in s) ++ l) (buttons_of ss) ∙ sym (flat_map-append buttons_in (arrows_in s) (flat_map arrows_in ss))
 
 -- the ends of transitions are states
 ends_known : (xs bs : List Name) (rs : List Arrow) → Distinct xs → All (Within xs bs) rs → All (λ n. (i : ℕ) × (place xs n ≡ Some i)) (flat_map states_in (map (spelled xs bs) rs))
@@ -101,8 +97,8 @@ arrow_same a b e f g =
 -- transitions by name are so by number
 same_arrows : (xs bs : List Name) (rs qs : List Arrow) → Distinct xs → Distinct bs → All (Within xs bs) rs → All (Within xs bs) qs → map (spelled xs bs) rs ≡ map (spelled xs bs) qs → rs ≡ qs
 same_arrows xs bs [] [] d f v w e = refl
-same_arrows xs bs [] (q ∷ qs) d f v w e = let z : ◌≡◌ {A = ℕ} 0 1 = cc in absurd (omega arith)
-same_arrows xs bs (r ∷ rs) [] d f v w e = let z : ◌≡◌ {A = ℕ} 0 1 = cc in absurd (omega arith)
+same_arrows xs bs [] (q ∷ qs) d f v w e = absurd (cc)
+same_arrows xs bs (r ∷ rs) [] d f v w e = absurd (cc)
 same_arrows xs bs (r ∷ rs) (q ∷ qs) d f v w e =
     let s : get_or xs r.source [] ≡ get_or xs q.source [] = cc in
     let b : get_or bs r.button [] ≡ get_or bs q.button [] = cc in
@@ -113,19 +109,16 @@ same_arrows xs bs (r ∷ rs) (q ∷ qs) d f v w e =
 
 list_of_same : {X : Type 0} (o q : Option X) → option_to_list o ≡ option_to_list q → o ≡ q
 list_of_same None None e = refl
-list_of_same None (Some y) e = let z : ◌≡◌ {A = ℕ} 0 1 = cc in absurd (omega arith)
-list_of_same (Some x) None e = let z : ◌≡◌ {A = ℕ} 0 1 = cc in absurd (omega arith)
-list_of_same (Some x) (Some y) e = let z : x ≡ y = cc in ap Some z
+list_of_same None (Some y) e = cc
+list_of_same (Some x) None e = cc
+list_of_same (Some x) (Some y) e = cc
 
 list_of_one : {X : Type 0} (o : Option X) → length (option_to_list o) ≤ 1
 list_of_one None = omega arith
 list_of_one (Some x) = omega arith
 
 fits : (k : Draft) → length k.states ≤ 4096 → length k.arrows ≤ 16384 → length k.buttons ≤ 64 → excess k ≡ None
-fits k a b c =
-    ap (λ t. cond t (Some (too_many_states (length k.states))) (cond (ltb 16384 (length k.arrows)) (Some (too_many_arrows (length k.arrows))) (cond (ltb 64 (length k.buttons)) (Some (too_many_buttons (length k.buttons))) None))) (le-ltb 4096 (length k.states) a)
-    ∙ ap (λ t. cond t (Some (too_many_arrows (length k.arrows))) (cond (ltb 64 (length k.buttons)) (Some (too_many_buttons (length k.buttons))) None)) (le-ltb 16384 (length k.arrows) b)
-    ∙ ap (λ t. cond t (Some (too_many_buttons (length k.buttons))) None) (le-ltb 64 (length k.buttons) c)
+fits k a b c = grind (arith, nat_tests)
 
 -- the same parts are closed to the same drawing
 finish_again : (at : ℕ) (k : Draft) (p : Plan) (n : Name) → k.title ≡ p.title → k.states ≡ p.states → k.buttons ≡ p.buttons → k.arrows ≡ p.arrows → option_to_list (option_map (λ q. q.1) k.start) ≡ n ∷ []
@@ -141,7 +134,7 @@ finish_again at k p n t s b a h i x = by k.start h
         ∙ ap (λ u. draws (record { title = p.title; states = p.states; buttons = p.buttons; arrows = u; start = p.start })) a
 
     by : (o : Option (ℕ × Name)) → option_to_list (option_map (λ q. q.1) o) ≡ n ∷ [] → begun at k o ≡ draws p
-    by None e = let z : ◌≡◌ {A = ℕ} 0 1 = cc in absurd (omega arith)
+    by None e = absurd (cc)
     by (Some q) e =
         let m : q.1 ≡ n = cc in
         ap (found at k q) (ap (place k.states) m ∙ i) ∙ ap (closed at k p.start) x ∙ whole

@@ -1,8 +1,8 @@
 -- A drawing is faithful to its text.
-use Rattle.std.proofs.Common.{◌≡◌, ℕ, ◌≤◌, Bool, true, false, cond, ltb, List, [], ◌∷◌, map, length, get_or, Some, None, Ok, Err, Result, sym, refl, ap, ◌∙◌, subst, arith}
+use Rattle.std.proofs.Common.{◌≡◌, ℕ, ◌≤◌, List, [], ◌∷◌, map, length, get_or, None, Ok, Err, Result, sym, ap, ◌∙◌, subst, arith}
 use Rattle.std.specs.Option.{option_map, option_to_list}
 use Rattle.std.specs.List.{flat_map}
-use Rattle.std.proofs.lemmas.Bool.{ltb-false}
+use Rattle.std.proofs.lemmas.Bool.Decides.{nat_tests}
 use Rattle.names.specs.Places.{Distinct}
 use Rattle.names.proofs.Placed.{place_at}
 use Rattle.names.proofs.Turns.{distinct_none, distinct_noted_all}
@@ -12,23 +12,15 @@ use Rattle.drawing.specs.declared.Trouble.{Trouble}
 use Rattle.drawing.specs.declared.Trouble.TheVariants.{Refused, Memory}
 use Rattle.drawing.specs.Code.{planned, why, Agrees}
 use Rattle.drawing.specs.Lines.{lines_of}
-use Rattle.drawing.specs.Model.{Draft, Plan, Why, too_many_states, too_many_arrows, too_many_buttons, draws, clear, excess, drawn}
+use Rattle.drawing.specs.Model.{Draft, Plan, draws, clear, excess, drawn}
 use Rattle.drawing.specs.Facts.{spelled, Faithful, said, states_in, buttons_in, Reliable}
 use Rattle.drawing.proofs.Built.{Built, built_none}
 use Rattle.drawing.proofs.Refusals.{refusal_line}
 use Rattle.drawing.proofs.Runs.{run_built, Closed, finish_closed}
 
-three : (x y z : Bool) (u v w : Why) → cond x (Some u) (cond y (Some v) (cond z (Some w) None)) ≡ None → (x ≡ false) × (y ≡ false) × (z ≡ false)
-three true y z u v w e = let q : ◌≡◌ {A = ℕ} 0 1 = cc in absurd (omega arith)
-three false true z u v w e = let q : ◌≡◌ {A = ℕ} 0 1 = cc in absurd (omega arith)
-three false false true u v w e = let q : ◌≡◌ {A = ℕ} 0 1 = cc in absurd (omega arith)
-three false false false u v w e = (refl, refl, refl)
-
 -- a draft with no excess
 pub small : (k : Draft) → excess k ≡ None → (length k.states ≤ 4096) × (length k.arrows ≤ 16384) × (length k.buttons ≤ 64)
-small k e =
-    let t = three (ltb 4096 (length k.states)) (ltb 16384 (length k.arrows)) (ltb 64 (length k.buttons)) (too_many_states (length k.states)) (too_many_arrows (length k.arrows)) (too_many_buttons (length k.buttons)) e in
-    (ltb-false 4096 (length k.states) t.0, ltb-false 16384 (length k.arrows) t.1, ltb-false 64 (length k.buttons) t.2)
+small k e = grind (arith, nat_tests)
 
 -- what the draft is built of, and the plan that is made of it
 pub faithful_to : (text : List ℕ) (k : Draft) (p : Plan) → map reading (lines_of text) ≡ map says (said text) → Built (said text) k → Closed k p → Faithful text p

@@ -12,4 +12,4 @@ pub mod Again
 pub mod Fits
 pub mod Numbering
 pub mod Leading
-pub mod Counting
+pub mod Grouping

@@ -1,46 +1,35 @@
 -- Lemmas on the lines of a text.
-use Rattle.std.proofs.Common.{◌≡◌, ℕ, suc, ◌<◌, Bool, true, false, cond, eqb, List, [], ◌∷◌, ◌++◌, length, get_or, refl, ap, ◌∙◌, arith}
-use Rattle.std.proofs.lemmas.Bool.{ne_eqb}
-use Rattle.drawing.specs.Lines.{lines_of, before}
+use Rattle.std.proofs.Common.{◌≡◌, ℕ, ◌+◌, ◌<◌, ◌≤◌, Bool, false, cond, eqb, List, [], ◌∷◌, ◌++◌, length, take, count_by, sym, refl, ap, ◌∙◌, arith}
+use Rattle.std.specs.List.{All, onto_first, slice_split}
+use Rattle.std.proofs.lemmas.List.Splits.{length-slice_split, slice_split_at}
+use Rattle.std.proofs.lemmas.List.Sums.{sum_by-take-le}
+use Rattle.drawing.specs.Lines.{before, lines_of}
 
--- no newline is among the bytes
-abbrev pub OneLine : List ℕ → Type 0
-OneLine bs = (i : ℕ) → i < length bs → get_or bs i 0 ≡ 10 → ⊥
+abbrev pub is_newline : ℕ → Bool
+is_newline c = eqb c 10
 
-pub one_line_rest : (c : ℕ) (bs : List ℕ) → OneLine (c ∷ bs) → OneLine bs
-one_line_rest c bs h i l e = h (suc i) (omega arith) e
+before_onto : (c : ℕ) (ls : List (List ℕ)) → before c ls ≡ onto_first c ls
+before_onto c [] = refl
+before_onto c (l ∷ ls) = refl
 
--- a byte that is no newline goes in front of the first line
-pub lines_byte : (c : ℕ) (bs : List ℕ) → (c ≡ 10 → ⊥) → lines_of (c ∷ bs) ≡ before c (lines_of bs)
+-- the lines are the parts that `split` gives
+pub lines_split : (bs : List ℕ) → lines_of bs ≡ slice_split is_newline bs
 unfolding lines_of
-lines_byte c bs h = ap (λ b. cond b ([] ∷ lines_of bs) (before c (lines_of bs))) (ne_eqb c 10 h)
+lines_split [] = refl
+lines_split (c ∷ bs) = ap (λ ls. cond (eqb c 10) ([] ∷ ls) (before c ls)) (lines_split bs) ∙ ap (cond (eqb c 10) ([] ∷ slice_split is_newline bs)) (before_onto c (slice_split is_newline bs))
 
-pub lines_newline : (bs : List ℕ) → lines_of (10 ∷ bs) ≡ [] ∷ lines_of bs
-unfolding lines_of
-lines_newline bs = refl
-
--- a text without a newline is a line
-pub lines_last : (bs : List ℕ) → OneLine bs → lines_of bs ≡ bs ∷ []
-unfolding lines_of
-lines_last [] h = refl
-lines_last (c ∷ bs) h = lines_byte c bs (h 0 (omega arith)) ∙ ap (before c) (lines_last bs (one_line_rest c bs h))
-
--- the first line, up to the first newline
-pub lines_cut : (l bs : List ℕ) → OneLine l → lines_of (l ++ (10 ∷ bs)) ≡ l ∷ lines_of bs
-unfolding lines_of
-lines_cut [] bs h = refl
-lines_cut (c ∷ l) bs h = lines_byte c (l ++ (10 ∷ bs)) (h 0 (omega arith)) ∙ ap (before c) (lines_cut l bs (one_line_rest c l h))
-
-some_before : (c : ℕ) (ls : List (List ℕ)) → 0 < length (before c ls)
-some_before c [] = omega arith
-some_before c (l ∷ ls) = omega arith
-
-some_either : (b : Bool) (c : ℕ) (ls : List (List ℕ)) → 0 < length (cond b ([] ∷ ls) (before c ls))
-some_either true c ls = omega arith
-some_either false c ls = some_before c ls
+-- one line more than newlines
+pub lines_counted : (bs : List ℕ) → length (lines_of bs) ≡ count_by is_newline bs + 1
+lines_counted bs = ap length (lines_split bs) ∙ length-slice_split is_newline bs
 
 -- there is a line
 pub lines_some : (bs : List ℕ) → 0 < length (lines_of bs)
-unfolding lines_of
-lines_some [] = omega arith
-lines_some (c ∷ bs) = some_either (eqb c 10) c (lines_of bs)
+lines_some bs = omega (arith, lines_counted bs)
+
+-- a front has no more lines than the whole
+pub lines_front : (n : ℕ) (bs : List ℕ) → length (lines_of (take n bs)) ≤ length (lines_of bs)
+lines_front n bs = omega (arith, lines_counted bs, lines_counted (take n bs), sum_by-take-le (λ c. cond (eqb c 10) 1 0) bs n)
+
+-- the first line, up to the first newline
+pub lines_cut : (l bs : List ℕ) → All (λ c. is_newline c ≡ false) l → lines_of (l ++ (10 ∷ bs)) ≡ l ∷ lines_of bs
+lines_cut l bs h = lines_split (l ++ (10 ∷ bs)) ∙ slice_split_at is_newline l 10 bs h refl ∙ ap (λ ls. l ∷ ls) (sym (lines_split bs))

@@ -26,7 +26,7 @@ unfolding finish
 finish_line at k n w one b e = by k.start b e
   where
     sized : (i : ℕ) (o : Option Why) → closed at k i o ≡ refuses n w → Line at n
-    sized i None h = let q : ◌≡◌ {A = ℕ} 0 1 = cc in absurd (omega arith)
+    sized i None h = absurd (cc)
     sized i (Some v) h = at_line at n v w one (omega arith) h
 
     placed : (q : ℕ × Name) (o : Option ℕ) → (1 ≤ q.0) × (q.0 ≤ at) → found at k q o ≡ refuses n w → Line at n

@@ -37,7 +37,7 @@ pub record Ran (at : ℕ) (ss : List Stated) (ls : List (List ℕ)) (p : Plan) :
   pub ends : finish (at + length ls) last ≡ draws p
 
 never : {A : Type 0} (o : Outcome) (n : ℕ) (w : Why) (p : Plan) → o ≡ refuses n w → o ≡ draws p → A
-never o n w p e f = let z : ◌≡◌ {A = ℕ} 0 1 = cc in absurd (omega arith)
+never o n w p e f = absurd (cc)
 
 pub run_stop : (at n : ℕ) (w : Why) (ls : List (List ℕ)) → run at (stopped n w) ls ≡ refuses n w
 unfolding run
@@ -110,12 +110,12 @@ finish_closed at k p e = by k.start refl e
           start_place = b ∙ ap (λ r. Some r.start) q;
           fits = x;
         }
-    sizes l n i (Some w) a b x h = never (refuses at w) at w p refl h
+    sizes l n i (Some w) a b x h = absurd (cc)
 
     placed : (l : ℕ) (n : Name) (o : Option ℕ) → k.start ≡ Some (l, n) → place k.states n ≡ o → found at k (l, n) o ≡ draws p → Closed k p
-    placed l n None a b h = never _ _ _ p refl h
+    placed l n None a b h = absurd (cc)
     placed l n (Some i) a b h = sizes l n i (excess k) a b refl h
 
     by : (o : Option (ℕ × Name)) → k.start ≡ o → begun at k o ≡ draws p → Closed k p
-    by None a h = never _ _ _ p refl h
+    by None a h = absurd (cc)
     by (Some q) a h = placed q.0 q.1 (place k.states q.1) a refl h

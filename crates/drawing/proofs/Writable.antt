@@ -1,14 +1,15 @@
 -- What a text says can be written.
-use Rattle.std.proofs.Common.{◌≡◌, ℕ, zero, suc, Bool, true, false, cond, not, ◌&&◌, T, eqb, List, [], ◌∷◌, ◌++◌, map, sym, refl, ap, ◌∙◌, subst, append_assoc, arith}
-use Rattle.std.specs.List.{flat_map, AllByRecursion as All}
+use Rattle.std.proofs.Common.{◌≡◌, ℕ, Bool, true, false, cond, not, ◌&&◌, T, eqb, List, [], ◌∷◌, ◌++◌, map, sym, refl, ap, ◌∙◌, subst, append_assoc, arith}
+use Rattle.std.specs.List.{flat_map, All as EachAt, AllByRecursion as All}
 use Rattle.std.specs.Option.{option_to_list}
+use Rattle.std.proofs.lemmas.Bool.Decides.{nat_tests}
+use Rattle.std.proofs.lemmas.List.Elements.{All-nil, All-cons}
 use Rattle.std.proofs.ByRecursion.{All-append, All-push, All-map}
-use Rattle.std.proofs.lemmas.Bool.{both_ways, eq-eqb, not-true}
 use Rattle.names.specs.Places.{Name, noted, noted_all}
 use Rattle.names.proofs.Turns.{noted_either}
 use Rattle.script.specs.Grammar.{Stated, blank, machine, start, state, arrow, says, reading}
 use Rattle.script.specs.Printed.{lacks, writable, writable_all, printed}
-use Rattle.script.proofs.Lacks.{holds_is, and_0, and_1, and_in}
+use Rattle.script.proofs.Lacks.{and_0, and_1, and_in}
 use Rattle.script.proofs.Oneline.{printed_one_line}
 use Rattle.script.proofs.Readable.{reading_writable}
 use Rattle.script.proofs.Roundtrip.{reading_printed}
@@ -16,7 +17,7 @@ use Rattle.drawing.specs.Lines.{lines_of, before}
 use Rattle.drawing.specs.Facts.{said, title_in, start_in, states_in, arrows_in, spelled, Faithful}
 use Rattle.drawing.specs.Model.{Plan}
 use Rattle.drawing.specs.Written.{line_of, statements_of}
-use Rattle.drawing.proofs.Lined.{OneLine, lines_cut}
+use Rattle.drawing.proofs.Lined.{is_newline, lines_cut}
 
 -- there is no newline in it
 abbrev Lone : List ℕ → Type 0
@@ -36,10 +37,12 @@ unfolding lines_of
 lines_lone [] = (tt, tt)
 lines_lone (c ∷ bs) = lone_either (eqb c 10) c (lines_of bs) refl (lines_lone bs)
 
-lone_one_line : (bs : List ℕ) → Lone bs → OneLine bs
-lone_one_line [] h i l e = omega arith
-lone_one_line (b ∷ bs) h zero l e = both_ways (eqb b 10) (not-true (eqb b 10) (holds_is (not (eqb b 10)) (and_0 (not (eqb b 10)) (lacks 10 bs) h))) (eq-eqb b 10 e)
-lone_one_line (b ∷ bs) h (suc i) l e = lone_one_line bs (and_1 (not (eqb b 10)) (lacks 10 bs) h) i (omega arith) e
+lone_parts : (b : ℕ) (bs : List ℕ) → Lone (b ∷ bs) → (is_newline b ≡ false) × Lone bs
+lone_parts b bs h = grind (arith, nat_tests)
+
+lone_each : (bs : List ℕ) → Lone bs → EachAt (λ b. is_newline b ≡ false) bs
+lone_each [] h = All-nil (λ b. is_newline b ≡ false)
+lone_each (b ∷ bs) h = All-cons (λ c. is_newline c ≡ false) b bs (lone_parts b bs h).0 (lone_each bs (lone_parts b bs h).1)
 
 -- a statement, and a name, that can be written
 abbrev CanSay : Stated → Type 0
@@ -51,8 +54,8 @@ CanName n = T (writable n)
 -- what lines say can be written
 said_writable : (ls : List (List ℕ)) (ss : List Stated) → All Lone ls → map reading ls ≡ map says ss → All CanSay ss
 said_writable [] [] a e = tt
-said_writable [] (s ∷ ss) a e = let z : ◌≡◌ {A = ℕ} 0 1 = cc in absurd (omega arith)
-said_writable (l ∷ ls) [] a e = let z : ◌≡◌ {A = ℕ} 0 1 = cc in absurd (omega arith)
+said_writable [] (s ∷ ss) a e = absurd (cc)
+said_writable (l ∷ ls) [] a e = absurd (cc)
 said_writable (l ∷ ls) (s ∷ ss) a e =
     let h : reading l ≡ says s = cc in
     let t : map reading ls ≡ map says ss = cc in
@@ -112,7 +115,7 @@ pub lines_written : (ss : List Stated) → All CanSay ss → lines_of (flat_map 
 unfolding lines_of
 lines_written [] a = refl
 lines_written (s ∷ ss) a =
-    ap lines_of (append_assoc (printed s) (10 ∷ []) (flat_map line_of ss)) ∙ lines_cut (printed s) (flat_map line_of ss) (lone_one_line (printed s) (printed_one_line s a.0))
+    ap lines_of (append_assoc (printed s) (10 ∷ []) (flat_map line_of ss)) ∙ lines_cut (printed s) (flat_map line_of ss) (lone_each (printed s) (printed_one_line s a.0))
     ∙ ap (λ l. printed s ∷ l) (lines_written ss a.1)
 
 reading_none : reading [] ≡ says blank

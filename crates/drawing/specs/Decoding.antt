@@ -2,6 +2,7 @@
 use Rattle.std.specs.Prelude.{◌≡◌, ℕ, ◌≤◌, List, length, take, Ok, Err, IsUtf8, Result}
 use Rattle.std.specs.Borrow.{Bor}
 use Rattle.std.specs.Str.{IsValidUpTo}
+use Rattle.drawing.specs.declared.decoded.NoText.{NoText}
 use Rattle.drawing.specs.Lines.{lines_of}
 
 -- the line of the first byte that is no UTF-8, which is a line of the bytes
@@ -13,6 +14,6 @@ pub record Breaks (bytes : List ℕ) (line : ℕ) : Type 0 where
   pub within : line ≤ length (lines_of bytes)
 
 -- the bytes are a text; or they are none, and where
-abbrev pub Decodes : List ℕ → Result (Bor (List ℕ)) ℕ → Type 0
+abbrev pub Decodes : List ℕ → Result (Bor (List ℕ)) NoText → Type 0
 Decodes bytes (Ok text) = text.now ≡ bytes
-Decodes bytes (Err line) = Breaks bytes line
+Decodes bytes (Err e) = Breaks bytes e.line

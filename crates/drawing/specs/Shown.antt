@@ -1,6 +1,7 @@
 -- Refusals in plain words.
 use Rattle.std.specs.Prelude.{ℕ, ◌/◌, ◌%◌, cond, List, [], ◌∷◌, ◌++◌, length, codes, decimal, ◌==◌, nat_lt}
 use Rattle.script.specs.Printed.{expectation}
+use Rattle.drawing.specs.declared.decoded.NoText.{NoText}
 use Rattle.drawing.specs.declared.Reason.{Reason}
 use Rattle.drawing.specs.declared.Reason.TheVariants.{Unexpected, SecondMachine, SecondStart, NoStart, UnknownStart, TooManyStates, TooManyArrows, TooManyButtons}
 use Rattle.drawing.specs.declared.Refusal.{Refusal}
@@ -40,3 +41,6 @@ refusal_words f = codes "line " ++ (decimal f.line ++ (codes ": " ++ reason_word
 abbrev pub trouble_words : Trouble → List ℕ
 trouble_words (Refused f) = refusal_words f
 trouble_words Memory = codes "not enough memory for the drawing"
+
+abbrev pub no_text_words : NoText → List ℕ
+no_text_words n = codes "line " ++ (decimal n.line ++ codes ": found a byte that is no UTF-8, expected text")

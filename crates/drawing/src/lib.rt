@@ -10,8 +10,8 @@ ghost use Rattle.drawing.specs.Facts.{Reliable};
 ghost use Rattle.drawing.specs.Written.{text_of, RoundTrip};
 ghost use Rattle.drawing.specs.declared.Trouble.TheVariants.{Memory};
 
+use decoded::count_lines;
 use names::Names;
-use pressed::any_leads;
 use script::Expected;
 use sketch::Sketch;
 use std::alloc::{AllocError, AllocFailed as Unplaced, Global};
@@ -19,12 +19,11 @@ use written::{name_at, push_arrows, push_line, push_states, push_title};
 
 mod decoded;
 mod plan;
-mod pressed;
 mod shown;
 mod sketch;
 mod written;
 
-pub use decoded::decode;
+pub use decoded::{NoText, decode};
 pub use plan::{Arrow, Drawing, MOST_ARROWS, MOST_BUTTONS, MOST_STATES};
 
 // Why a text is refused.
@@ -54,6 +53,7 @@ pub enum Trouble<'a> {
     Memory,
 }
 
+// Kept: by hand, since clauses name the error, and a derived From has no contract.
 impl<'a> From<AllocError> for Trouble<'a> {
     ghost from_gives = { λ _ r. r ≡ Memory };
 
@@ -62,6 +62,7 @@ impl<'a> From<AllocError> for Trouble<'a> {
     }
 }
 
+// Kept: by hand, as the one above.
 impl<'a, T: Drop> From<Unplaced<T>> for Trouble<'a> {
     ghost from_gives = { λ _ r. r ≡ Memory };
 
@@ -75,10 +76,7 @@ impl Drawing {
     pub fn title(&self) -> Option<&str>
         ensures { option_map (λ x. x.now) result ≡ (planned self.now).title }
     {
-        match &self.title {
-            Some(title) => Some(title.as_str()),
-            None => None,
-        }
+        self.title.as_deref()
     }
 
     // The states by number.
@@ -106,7 +104,9 @@ impl Drawing {
     pub fn can_press(&self, state: usize, button: usize) -> bool
         ensures { result ≡ presses state button (planned self.now).arrows }
     {
-        any_leads(self.arrows(), state, button)
+        self.arrows
+            .iter()
+            .any(|a| a.source == state && a.button == button)
     }
 
     // The number of the state at which it starts.
@@ -123,19 +123,15 @@ pub fn parse<'a>(heap: Global, text: &'a str) -> Result<Drawing, Trouble<'a>>
     ensures facts { Reliable result text.now }
 {
     let mut sketch = Sketch::new(heap);
-    let mut rest = text;
-    let mut line = 0;
-    while let Some((first, more)) = rest.split_once('\n') {
-        line += 1;
-        sketch.add(heap, line, first)?;
-        rest = more;
+    for (i, line) in text.split('\n').enumerate() {
+        sketch.add(heap, i + 1, line)?;
     }
-    line += 1;
-    sketch.add(heap, line, rest)?;
-    sketch.finish(heap, line)
+    sketch.finish(heap, count_lines(text.as_bytes()))
 }
 
 // The text of a drawing, which draws it again.
+// Kept: pushed and no Display, since a name is written by push_name, which appends to a String.
+#[tactic(auto, using(crate::proofs::Again::again))]
 pub fn print(heap: Global, drawing: &Drawing) -> Result<String, AllocError>
     ensures bytes { IfOk result (λ s. string_bytes s ≡ text_of (planned drawing.now)) }
     ensures again { RoundTrip }

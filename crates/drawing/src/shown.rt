@@ -5,22 +5,14 @@ ghost use Rattle.drawing.specs.Shown.{until, first_word, finding, grouped, reaso
 use crate::{Reason, Refusal, Trouble};
 use std::fmt;
 
-// What stands before the first `mark`.
-fn before(text: &str, mark: char) -> &str
-    requires { mark < 128 }
-    ensures { result.now ≡ until mark text.now }
-{
-    match text.split_once(mark) {
-        Some((first, _)) => first,
-        None => text,
-    }
-}
-
 // The first word, up to white space.
 fn first_word(text: &str) -> &str
     ensures { result.now ≡ first_word text.now }
 {
-    before(before(before(text, ' '), '\t'), '\r')
+    match text.split_once([' ', '\t', '\r']) {
+        Some((word, _)) => word,
+        None => text,
+    }
 }
 
 // What was found on a line.
@@ -51,11 +43,9 @@ impl fmt::Display for Count {
         if n < 1_000 || n >= 1_000_000 {
             return write!(f, "{n}");
         }
-        let thousands = n / 1000;
-        let hundreds = n / 100 % 10;
-        let tens = n / 10 % 10;
-        let ones = n % 10;
-        write!(f, "{thousands},{hundreds}{tens}{ones}")
+        let thousands = n / 1_000;
+        let rest = n % 1_000;
+        write!(f, "{thousands},{rest:03}")
     }
 }
 

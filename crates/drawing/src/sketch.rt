@@ -3,6 +3,7 @@ ghost use Rattle.std.specs.Prelude.{◌≡◌, OnOk};
 ghost use Rattle.script.specs.Grammar.{reading};
 ghost use Rattle.std.specs.Option.{option_map};
 ghost use Rattle.drawing.specs.Code.{drafted, why, Numbered, Follows, Begins, Agrees};
+ghost use Rattle.drawing.specs.declared.Trouble.TheVariants.{Refused};
 ghost use Rattle.drawing.specs.Model.{clear, titled, started, with_state, with_arrow, add, excess, finish};
 
 use crate::plan::{MOST_ARROWS, MOST_BUTTONS, MOST_STATES};
@@ -10,6 +11,15 @@ use crate::{Arrow, Drawing, Reason, Refusal, Trouble};
 use names::Names;
 use script::{Statement, parse_line};
 use std::alloc::{AllocError, Global};
+
+impl<'a> Reason<'a> {
+    // That a text is refused for this at the line.
+    fn at(self, line: usize) -> Trouble<'a>
+        ensures { result ≡ Refused (record { line = line; reason = self.entry }) }
+    {
+        Trouble::Refused(Refusal { line, reason: self })
+    }
+}
 
 #[derive(Drop)]
 pub struct Sketch<'a> {
@@ -39,10 +49,7 @@ impl<'a> Sketch<'a> {
         ensures { Follows result self.new (titled line (drafted self.old) name.now (drafted self.old).title) }
     {
         if self.title.is_some() {
-            return Err(Trouble::Refused(Refusal {
-                line,
-                reason: Reason::SecondMachine,
-            }));
+            return Err(Reason::SecondMachine.at(line));
         }
         self.title = Some(name);
         Ok(())
@@ -53,10 +60,7 @@ impl<'a> Sketch<'a> {
         ensures { Follows result self.new (started line (drafted self.old) name.now (drafted self.old).start) }
     {
         if self.start.is_some() {
-            return Err(Trouble::Refused(Refusal {
-                line,
-                reason: Reason::SecondStart,
-            }));
+            return Err(Reason::SecondStart.at(line));
         }
         self.start = Some((line, name));
         Ok(())
@@ -96,10 +100,7 @@ impl<'a> Sketch<'a> {
         ensures { Follows result self.new (add line (drafted self.old) (reading text.now)) }
     {
         match parse_line(text) {
-            Err(fault) => Err(Trouble::Refused(Refusal {
-                line,
-                reason: Reason::Unexpected(fault.expected, fault.found),
-            })),
+            Err(fault) => Err(Reason::Unexpected(fault.expected, fault.found).at(line)),
             Ok(Statement::Blank) => Ok(()),
             Ok(Statement::Machine(name)) => self.entitle(line, name),
             Ok(Statement::Start(name)) => self.begin(line, name),
@@ -131,18 +132,11 @@ impl<'a> Sketch<'a> {
         ensures { Begins result line (drafted self.now) }
     {
         let Some((at, name)) = self.start else {
-            return Err(Trouble::Refused(Refusal {
-                line,
-                reason: Reason::NoStart,
-            }));
+            return Err(Reason::NoStart.at(line));
         };
-        match self.states.number_of(name) {
-            Some(start) => Ok(start),
-            None => Err(Trouble::Refused(Refusal {
-                line: at,
-                reason: Reason::UnknownStart(name),
-            })),
-        }
+        self.states
+            .number_of(name)
+            .ok_or(Reason::UnknownStart(name).at(at))
     }
 
     // The drawing, after the text's last line.
@@ -152,12 +146,12 @@ impl<'a> Sketch<'a> {
     {
         let start = self.start_number(line)?;
         if let Some(reason) = self.excess() {
-            return Err(Trouble::Refused(Refusal { line, reason }));
+            return Err(reason.at(line));
         }
-        let title = match self.title {
-            Some(name) => Some(String::from_str(heap, name)?),
-            None => None,
-        };
+        let title = self
+            .title
+            .map(|name| String::from_str(heap, name))
+            .transpose()?;
         Ok(Drawing {
             title,
             states: self.states,

@@ -15,6 +15,7 @@ use script::push_name;
 use std::alloc::AllocError;
 
 // The name with the number `i`, or nothing.
+// Kept: a drawing's numbers are those of names, but unwrap would ask that of each call.
 pub fn name_at(table: &Names, i: usize) -> &str
     ensures { result.now ≡ slice_index_or (names table.now) i [] }
 {
@@ -44,8 +45,8 @@ pub fn push_title(out: &mut String, title: Option<&str>) -> Result<(), AllocErro
 pub fn push_states(out: &mut String, states: &Names) -> Result<(), AllocError>
     ensures { OnOk result (string_bytes out.new ≡ string_bytes out.old ++ flat_map line_of (map state (names states.now))) }
 {
-    for i in 0..states.len() {
-        push_line(out, "state ", name_at(states, i))?;
+    for name in states.list() {
+        push_line(out, "state ", name.as_str())?;
     }
     Ok(())
 }
@@ -57,17 +58,14 @@ fn push_arrow(out: &mut String, drawing: &Drawing, arrow: Arrow) -> Result<(), A
     push_name(out, name_at(&drawing.states, arrow.source))?;
     out.push_str(": ")?;
     push_name(out, name_at(&drawing.buttons, arrow.button))?;
-    out.push_str(" -> ")?;
-    push_name(out, name_at(&drawing.states, arrow.target))?;
-    out.push('\n')
+    push_line(out, " -> ", name_at(&drawing.states, arrow.target))
 }
 
 // A line for each transition.
 pub fn push_arrows(out: &mut String, drawing: &Drawing) -> Result<(), AllocError>
     ensures { OnOk result (string_bytes out.new ≡ string_bytes out.old ++ flat_map line_of (map (spelled (planned drawing.now).states (planned drawing.now).buttons) (planned drawing.now).arrows)) }
 {
-    let arrows = drawing.arrows();
-    for arrow in arrows {
+    for arrow in drawing.arrows() {
         push_arrow(out, drawing, *arrow)?;
     }
     Ok(())

@@ -1,16 +1,14 @@
 // Tells what two drawings show: tell OLD NEW.
 #![tactic(auto)]
 
-ghost use Rattle.std.specs.Prelude.{◌≡◌, ◌≢◌, IsOk, IsErr, IsOkAnd, IsErrAnd, Err};
-ghost use Rattle.std.specs.Process.{exit_status};
-
 use beside::{Trouble as Apart, question};
 use drawing::{Drawing, decode, parse};
+use ending::{Stop, ended, said};
 use observer::{Distance, measure};
 use script::push_name;
 use std::alloc::{AllocError, Global};
 use std::process::ExitCode;
-use std::{env, fs, io};
+use std::{env, fs};
 
 #[cfg(test)]
 mod tests;
@@ -37,52 +35,19 @@ A drawing that is none is refused on standard error, with the file, the line, wh
 was found and what was expected; the status is then 1.
 ";
 
-// Why nothing more is told.
-#[derive(Debug, Drop)]
-enum Stop {
-    // what is wrong has been said
-    Said,
-    Output(io::Error),
-    Memory,
-}
-
-impl From<io::Error> for Stop {
-    fn from(e: io::Error) -> Stop {
-        Stop::Output(e)
-    }
-}
-
-impl From<AllocError> for Stop {
-    fn from(_e: AllocError) -> Stop {
-        Stop::Memory
-    }
-}
-
 // The drawing in a file; what is wrong with it is said.
 fn load(rt: &HostRuntime, path: &str) -> Result<Drawing, Stop> {
-    let bytes = match fs::read(rt, path) {
-        Ok(bytes) => bytes,
-        Err(e) => {
-            eprintln!(rt; "tell: {path} can't be read: {e}")?;
-            return Err(Stop::Said);
-        }
-    };
-    let text = match decode(bytes.as_slice()) {
-        Ok(text) => text,
-        Err(line) => {
-            eprintln!(rt;
-                "tell: {path}, line {line}: found a byte that is no UTF-8, expected text"
-            )?;
-            return Err(Stop::Said);
-        }
-    };
-    match parse(rt.alloc(), text.strip_prefix('\u{feff}').unwrap_or(text)) {
-        Ok(drawing) => Ok(drawing),
-        Err(trouble) => {
-            eprintln!(rt; "tell: {path}, {trouble}")?;
-            Err(Stop::Said)
-        }
-    }
+    let bytes = fs::read(rt, path).map_err(|e| said(
+        rt,
+        "tell",
+        format_args!("{path} can't be read: {e}"),
+    ))?;
+    let text = decode(bytes.as_slice()).map_err(|e| said(rt, "tell", format_args!("{path}, {e}")))?;
+    parse(rt.alloc(), text.strip_prefix('\u{feff}').unwrap_or(text)).map_err(|e| said(
+        rt,
+        "tell",
+        format_args!("{path}, {e}"),
+    ))
 }
 
 // What can be pressed in the start, as a list of names.
@@ -108,10 +73,7 @@ fn describe(rt: &HostRuntime, which: &str, path: &str, drawing: &Drawing) -> Res
     let arrows = drawing.arrows().len();
     println!(rt; "  states {states}, buttons {buttons}, transitions {arrows}")?;
     let mut start = String::new(rt.alloc());
-    push_name(
-        &mut start,
-        drawing.states().name(drawing.start()).unwrap_or(""),
-    )?;
+    push_name(&mut start, drawing.states().name(drawing.start()).unwrap())?;
     let pressed = choices(rt.alloc(), drawing)?;
     if pressed.is_empty() {
         println!(rt; "  it starts in {start}, where nothing can be pressed")?;
@@ -123,21 +85,10 @@ fn describe(rt: &HostRuntime, which: &str, path: &str, drawing: &Drawing) -> Res
 
 // The question of both, or what there is too much of.
 fn ask(rt: &HostRuntime, old: &Drawing, new: &Drawing) -> Result<Vec<u32>, Stop> {
-    let wrong = match question(rt.alloc(), old, new) {
-        Ok(words) => return Ok(words),
-        Err(Apart::TooManyStates(n)) => format!(in rt.alloc();
-            "{n} states; at most 4,096 can be compared"
-        )?,
-        Err(Apart::TooManyArrows(n)) => format!(in rt.alloc();
-            "{n} transitions; at most 16,384 can be compared"
-        )?,
-        Err(Apart::TooManyButtons(n)) => format!(in rt.alloc();
-            "{n} different buttons; at most 64 can be compared"
-        )?,
-        Err(Apart::Memory) => return Err(Stop::Memory),
-    };
-    eprintln!(rt; "tell: the two drawings together have {wrong}")?;
-    Err(Stop::Said)
+    question(rt.alloc(), old, new).map_err(|trouble| match trouble {
+        Apart::Memory => Stop::Memory,
+        wrong => said(rt, "tell", wrong),
+    })
 }
 
 // How far ahead the two of a question differ, in words that are lent as the call asks.
@@ -175,41 +126,17 @@ fn tell(rt: &HostRuntime, old_path: &str, new_path: &str) -> Result<(), Stop> {
     answer(rt, words.as_slice())
 }
 
-// Says how it is called.
-fn usage(rt: &HostRuntime) -> Result<(), Stop> {
-    eprintln!(rt; "tell: expected two drawings: tell OLD NEW (tell --help says more)")?;
-    Err(Stop::Said)
-}
-
 // Tells what the arguments ask for.
 fn run(rt: &HostRuntime) -> Result<(), Stop> {
-    let mut args = env::args(rt)?.skip(1);
-    let Some(old) = args.next() else {
-        return usage(rt);
-    };
-    if old.as_str() == "--help" {
-        rt.print(HELP)?;
-        return Ok(());
-    }
-    let Some(new) = args.next() else {
-        return usage(rt);
-    };
-    if args.next().is_some() {
-        return usage(rt);
-    }
-    tell(rt, old.as_str(), new.as_str())
-}
-
-// How a run ends the program: what has been said is not said again; another error goes to who runs `main`, which prints it.
-fn ended(run: Result<(), Stop>) -> Result<ExitCode, Stop>
-    ensures done { IsOk run → IsOkAnd result (λ c. exit_status c ≡ 0) }
-    ensures said { run ≡ Err Stop.Said → IsOkAnd result (λ c. exit_status c ≡ 1) }
-    ensures other { IsErr run → run ≢ Err Stop.Said → IsErrAnd result (λ e. run ≡ Err e) }
-{
-    match run {
-        Ok(()) => Ok(ExitCode::SUCCESS),
-        Err(Stop::Said) => Ok(ExitCode::FAILURE),
-        Err(stop) => Err(stop),
+    let args: Vec<String> = env::args(rt)?.skip(1).collect(rt.alloc())?;
+    match args.as_slice() {
+        [help, ..] if help.as_str() == "--help" => Ok(rt.print(HELP)?),
+        [old, new] => tell(rt, old.as_str(), new.as_str()),
+        _ => Err(said(
+            rt,
+            "tell",
+            "expected two drawings: tell OLD NEW (tell --help says more)",
+        )),
     }
 }
 

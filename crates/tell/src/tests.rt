@@ -1,7 +1,6 @@
 // What drawings are refused for, and what each form of line gives.
 use beside::{Trouble as Apart, question};
-use drawing::{Drawing, decode, parse, print};
-use observer::{Distance, measure};
+use drawing::{Drawing, NoText, decode, parse, print};
 use std::alloc::Global;
 use std::process::Abort;
 use std::test::Fail;
@@ -137,7 +136,10 @@ fn each_form_is_read(rt: HostRuntime) -> Result<(), Fail> {
 #[test]
 fn bytes_are_text_or_not(rt: HostRuntime) {
     assert_eq!(rt; decode(b"start a"), Ok("start a"));
-    assert_eq!(rt; decode(b"start a\na: \xffcoin -> b"), Err(2));
+    assert_eq!(rt;
+        decode(b"start a\na: \xffcoin -> b"),
+        Err(NoText { line: 2 })
+    );
 }
 
 #[test]
@@ -155,67 +157,4 @@ fn two_are_one_question(rt: HostRuntime) -> Result<(), Fail> {
         },
         Err(_) => Err(Fail::new("two drawings were refused")),
     }
-}
-
-// How far ahead the two of a question differ.
-fn distance(heap: Global, words: &[u32]) -> Result<Distance, Fail> {
-    let lent = words.len().saturating_mul(128).saturating_add(65536);
-    let mut work = vec![in heap; 0u32; lent]?;
-    Ok(measure(words, work.as_mut_slice()))
-}
-
-// Small questions: a state with itself; two without transitions; a loop of one beside a loop of two; one way to two dead states beside one to
-// a single one; the museum's two; rows of two transitions and of one; words that encode nothing.
-const QUESTIONS: [(&[u32], Distance); 7] = [
-    (&[1, 1, 0, 5, 0, 0, 0], Distance::Same),
-    (&[2, 0, 0, 1], Distance::Same),
-    (&[3, 3, 0, 1, 0, 1, 1, 2, 2, 1, 1, 0, 1], Distance::Same),
-    (&[4, 3, 0, 1, 1, 0, 1, 2, 3, 1, 1, 0, 3], Distance::Same),
-    (
-        &[
-            8, 7, 0, 1, 1, 1, 2, 7, 1, 3, 7, 4, 1, 5, 4, 1, 6, 5, 2, 7, 6, 3, 7, 0, 4,
-        ],
-        Distance::Differ(2),
-    ),
-    (
-        &[5, 3, 0, 1, 1, 1, 1, 2, 3, 1, 4, 0, 3],
-        Distance::Differ(2),
-    ),
-    (&[1, 0, 0, 1], Distance::NoMachine),
-];
-
-#[test]
-fn small_questions(rt: HostRuntime) -> Result<(), Fail> {
-    for (words, answer) in QUESTIONS {
-        assert_eq!(rt; distance(rt.alloc(), words)?, answer);
-    }
-    assert_eq!(rt; measure(&[2, 0, 0, 1], &mut [0; 64]), Distance::Few);
-    Ok(())
-}
-
-// 4,096 states in a ring by 1, with a 2 from every even one to itself; the two that are asked about.
-fn ring(heap: Global, first: u32, second: u32) -> Result<Vec<u32>, Fail> {
-    let mut words = vec![in heap; 4096, 6144]?;
-    for s in 0..4096u32 {
-        words.extend_from_slice(&[s, 1, (s + 1) % 4096])?;
-        if s % 2 == 0 {
-            words.extend_from_slice(&[s, 2, s])?;
-        }
-    }
-    words.extend_from_slice(&[first, second])?;
-    Ok(words)
-}
-
-#[test]
-fn the_ring(rt: HostRuntime) -> Result<(), Fail> {
-    let heap = rt.alloc();
-    assert_eq!(rt;
-        distance(heap, ring(heap, 0, 1)?.as_slice())?,
-        Distance::Differ(1)
-    );
-    assert_eq!(rt;
-        distance(heap, ring(heap, 0, 2)?.as_slice())?,
-        Distance::Same
-    );
-    Ok(())
 }

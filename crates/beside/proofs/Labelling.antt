@@ -1,5 +1,5 @@
 -- Buttons that are noted in turn, and their labels.
-use Rattle.std.proofs.Common.{◌≡◌, ℕ, zero, suc, ◌<◌, List, [], ◌∷◌, ◌++◌, length, get_or, Some, unwrap_or, sym, refl, ap, ◌∙◌, subst, arith}
+use Rattle.std.proofs.Common.{◌≡◌, ℕ, zero, suc, ◌<◌, List, [], ◌∷◌, ◌++◌, length, get_or, Some, unwrap_or, sym, refl, ap, ◌∙◌, arith}
 use Rattle.names.specs.Places.{Name, place, noted, noted_all}
 use Rattle.names.proofs.Placed.{place_noted}
 use Rattle.names.proofs.Turns.{noted_all_append, noted_place}
@@ -35,7 +35,3 @@ labels_at start (n ∷ ns) more zero h =
     let p = noted_place start n in
     (p.0, ap (λ o. unwrap_or o 0) p.1, stays (noted_all (noted start n) ns) more n p.0 (stays (noted start n) ns n p.0 p.1))
 labels_at start (n ∷ ns) more (suc j) h = labels_at (noted start n) ns more j (omega arith)
-
--- the same, of names that are known
-pub noting_of : (start start' ns ns' all : List Name) (ls : List ℕ) → Noting start ns all ls → start ≡ start' → ns ≡ ns' → Noting start' ns' all ls
-noting_of start start' ns ns' all ls h e f = subst (λ xs. Noting xs ns' all ls) e (subst (λ xs. Noting start xs all ls) f h)
