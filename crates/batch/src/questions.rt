@@ -1,36 +1,36 @@
 // Questions that the tests of measure and of compare ask.
-use observer::{Compared, Distance};
+use observer::{Compared, Unanswered};
 use std::alloc::Global;
 use std::test::Fail;
 
 // Small questions, and what measure and compare answer: a state with itself; two without transitions; a loop of one beside a loop of two; one way
 // to two dead states beside one to a single one; the museum's two; rows of two transitions and of one; words that encode nothing.
-pub const QUESTIONS: [(&[u32], Distance, Compared); 7] = [
-    (&[1, 1, 0, 5, 0, 0, 0], Distance::Same, Compared::Same),
-    (&[2, 0, 0, 1], Distance::Same, Compared::Same),
+pub const QUESTIONS: [(&[u32], Result<Option<u32>, Unanswered>, Compared); 7] = [
+    (&[1, 1, 0, 5, 0, 0, 0], Ok(None), Compared::Same),
+    (&[2, 0, 0, 1], Ok(None), Compared::Same),
     (
         &[3, 3, 0, 1, 0, 1, 1, 2, 2, 1, 1, 0, 1],
-        Distance::Same,
+        Ok(None),
         Compared::Same,
     ),
     (
         &[4, 3, 0, 1, 1, 0, 1, 2, 3, 1, 1, 0, 3],
-        Distance::Same,
+        Ok(None),
         Compared::Same,
     ),
     (
         &[
             8, 7, 0, 1, 1, 1, 2, 7, 1, 3, 7, 4, 1, 5, 4, 1, 6, 5, 2, 7, 6, 3, 7, 0, 4,
         ],
-        Distance::Differ(2),
+        Ok(Some(2)),
         Compared::Differ(2, 5),
     ),
     (
         &[5, 3, 0, 1, 1, 1, 1, 2, 3, 1, 4, 0, 3],
-        Distance::Differ(2),
+        Ok(Some(2)),
         Compared::Differ(2, 3),
     ),
-    (&[1, 0, 0, 1], Distance::NoMachine, Compared::NoMachine),
+    (&[1, 0, 0, 1], Err(Unanswered::NoMachine), Compared::NoMachine),
 ];
 
 // 4,096 states in a ring by 1, with a 2 from every even one to itself; the two that are asked about.

@@ -4,7 +4,7 @@
 use beside::{Trouble as Apart, question};
 use drawing::{Drawing, decode, parse};
 use ending::{Stop, ended, said};
-use observer::{Distance, measure};
+use observer::{measure, to_lend};
 use script::push_name;
 use std::alloc::{AllocError, Global};
 use std::process::ExitCode;
@@ -91,27 +91,18 @@ fn ask(rt: &HostRuntime, old: &Drawing, new: &Drawing) -> Result<Vec<u32>, Stop>
     })
 }
 
-// How far ahead the two of a question differ, in words that are lent as the call asks.
-fn distance_of(heap: Global, words: &[u32]) -> Result<Distance, AllocError> {
-    let lent = words.len().saturating_mul(128).saturating_add(65536);
-    let mut work = vec![in heap; 0u32; lent]?;
-    Ok(measure(words, work.as_mut_slice()))
-}
-
-// Says whether the two do the same from their starts.
+// Says whether the two of a question do the same, in words that are lent as the call asks.
 fn answer(rt: &HostRuntime, words: &[u32]) -> Result<(), Stop> {
-    match distance_of(rt.alloc(), words)? {
-        Distance::Same => println!(rt;
+    let mut work = vec![in rt.alloc(); 0u32; to_lend(words.len())]?;
+    match measure(words, work.as_mut_slice()) {
+        Ok(None) => println!(rt;
             "same: nobody who presses, looks, goes back and tries otherwise can tell them apart"
         )?,
-        Distance::Differ(1) => println!(rt;
-            "differ: one who looks 1 press ahead can tell them apart"
-        )?,
-        Distance::Differ(d) => println!(rt;
+        Ok(Some(1)) => println!(rt; "differ: one who looks 1 press ahead can tell them apart")?,
+        Ok(Some(d)) => println!(rt;
             "differ: one who looks {d} presses ahead can tell them apart, and nobody who looks less far"
         )?,
-        Distance::NoMachine => println!(rt; "no machine")?,
-        Distance::Few => println!(rt; "few words")?,
+        Err(why) => println!(rt; "{why}")?,
     }
     Ok(())
 }
