@@ -30,3 +30,6 @@ loop-s-preserved c =
       after.represented,
       more ws c.args.old.now c.loop-s.links c.link_firsts.new.links (length c.args.system.next.now) c.loop-s.s c.loop-s.invariant.1 after.firsts after.others,
     )
+
+pub returns-clause-firsts : goal.returns-clause-firsts
+returns-clause-firsts c = λ j h. c.loop-s.invariant.1 j h (omega (arith, c.args.system.bounded.source j h))
