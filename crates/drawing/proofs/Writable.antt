@@ -1,5 +1,5 @@
 -- What a text says can be written.
-use Rattle.std.proofs.Common.{◌≡◌, ℕ, Bool, true, false, cond, not, ◌&&◌, T, eqb, List, [], ◌∷◌, ◌++◌, map, sym, refl, ap, ◌∙◌, subst, append_assoc, arith}
+use Rattle.std.proofs.Common.{◌≡◌, ℕ, Bool, true, false, cond, not, T, eqb, List, [], ◌∷◌, ◌++◌, map, sym, refl, ap, ◌∙◌, subst, append_assoc, arith}
 use Rattle.std.specs.List.{flat_map, All as EachAt, AllByRecursion as All}
 use Rattle.std.specs.Option.{option_to_list}
 use Rattle.std.proofs.lemmas.Bool.Decides.{nat_tests}
@@ -9,7 +9,6 @@ use Rattle.names.specs.Places.{Name, noted, noted_all}
 use Rattle.names.proofs.Turns.{noted_either}
 use Rattle.script.specs.Grammar.{Stated, blank, machine, start, state, arrow, says, reading}
 use Rattle.script.specs.Printed.{lacks, writable, writable_all, printed}
-use Rattle.script.proofs.Lacks.{and_0, and_1, and_in}
 use Rattle.script.proofs.Oneline.{printed_one_line}
 use Rattle.script.proofs.Readable.{reading_writable}
 use Rattle.script.proofs.Roundtrip.{reading_printed}
@@ -24,8 +23,8 @@ abbrev Lone : List ℕ → Type 0
 Lone l = T (lacks 10 l)
 
 lone_before : (c : ℕ) (ls : List (List ℕ)) → T (not (eqb c 10)) → All Lone ls → All Lone (before c ls)
-lone_before c [] h a = (and_in (not (eqb c 10)) true h tt, tt)
-lone_before c (l ∷ ls) h a = (and_in (not (eqb c 10)) (lacks 10 l) h a.0, a.1)
+lone_before c [] h a = (grind (arith, nat_tests), tt)
+lone_before c (l ∷ ls) h a = (grind (arith, nat_tests, a.0), a.1)
 
 lone_either : (b : Bool) (c : ℕ) (ls : List (List ℕ)) → eqb c 10 ≡ b → All Lone ls → All Lone (cond b ([] ∷ ls) (before c ls))
 lone_either true c ls e a = (tt, a)
@@ -88,9 +87,7 @@ states_writable blank h = tt
 states_writable (machine n) h = tt
 states_writable (start n) h = tt
 states_writable (state n) h = (h, tt)
-states_writable (arrow s b t) h =
-    let two = and_1 (writable s) (writable b && writable t) h in
-    (and_0 (writable s) (writable b && writable t) h, (and_1 (writable b) (writable t) two, tt))
+states_writable (arrow s b t) h = (grind (arith, nat_tests), (grind (arith, nat_tests), tt))
 
 arrows_writable : (s : Stated) → CanSay s → All CanSay (arrows_in s)
 arrows_writable blank h = tt
