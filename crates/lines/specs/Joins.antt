@@ -24,10 +24,10 @@ pub record Becomes (n : ℕ) (j k : Joined) (lines : List ℕ) (b' : Body) (line
 abbrev pub Joins : ℕ → Body → List ℕ → Body → List ℕ → Type 0
 Joins t b lines b' lines' = (n : ℕ) (j : Joined) → BodyIs b n j → Becomes n j (join n t j) lines b' lines'
 
--- formula i is joined if the mask has it
-abbrev pub TermJoins : List ℕ → List ℕ → List ℕ → ℕ → Body → List ℕ → Body → List ℕ → Type 0
-TermJoins mask reach places i b lines b' lines' = (n : ℕ) (j : Joined) → BodyIs b n j
-    → Becomes n j (cond (bit_at mask i == 1) (join n (term_line (bit_at reach i == 1) (slice_index places i)) j) j) lines b' lines'
+-- formula i, which stands at line p, is joined if the mask has it
+abbrev pub TermJoins : List ℕ → List ℕ → ℕ → ℕ → Body → List ℕ → Body → List ℕ → Type 0
+TermJoins mask reach i p b lines b' lines' = (n : ℕ) (j : Joined) → BodyIs b n j
+    → Becomes n j (cond (bit_at mask i == 1) (join n (term_line (bit_at reach i == 1) p) j) j) lines b' lines'
 
 -- the terms of the mask among the oldest k formulas, joined
 abbrev pub body_by : List ℕ → List ℕ → List ℕ → ℕ → ℕ → Joined

@@ -47,25 +47,24 @@ fn join(lines: &mut [u32], body: Body, term: Line) -> Body
     }
 }
 
-// Joins formula `i`, if the mask of terms has it.
+// Joins formula `i`, which stands at line `place`, if the mask of terms has it.
 fn join_term(
     mask: &[u32],
     reach: &[u32],
-    places: &[u32],
     i: usize,
+    place: u32,
     body: Body,
     lines: &mut [u32],
 ) -> Body
-    requires place { i < length places.now }
-    requires line { T (bit_at mask.now i == 1) → slice_index places.now i + 1 < 2 ^ 32 }
+    requires line { T (bit_at mask.now i == 1) → place + 1 < 2 ^ 32 }
     requires room { 3 * body.next + 3 ≤ length lines.old }
     requires fits { body.next < 2 ^ 32 }
-    ensures { TermJoins mask.now reach.now places.now i body lines.old result lines.new }
+    ensures { TermJoins mask.now reach.now i place body lines.old result lines.new }
 {
     if !has_bit(mask, i) {
         return body;
     }
-    join(lines, body, term_line(reach, i, places[i]))
+    join(lines, body, term_line(reach, i, place))
 }
 
 // Joins those of the oldest `j` formulas that the mask of terms has. The first line that is written is line `next`.
@@ -85,9 +84,8 @@ pub fn join_terms(
     ensures lines { Appends lines.old next (body_by mask.now reach.now places.now next j).ands lines.new }
 {
     let mut body = Body { at: Line(0), next };
-    // Kept: the index. Formulas go by number, and bits are asked for by it.
-    for i in 0..j {
-        body = join_term(mask, reach, places, i, body, lines);
+    for (i, place) in places[0..j].iter().enumerate() {
+        body = join_term(mask, reach, i, *place, body, lines);
     }
     body
 }
