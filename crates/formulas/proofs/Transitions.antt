@@ -1,12 +1,12 @@
 -- The transitions that words hold, by their place.
-use Rattle.std.proofs.Common.{◌≡◌, ℕ, ◌*◌, ◌<◌, Bool, T, List, length, sym, ap, ◌∙◌, subst, arith}
+use Rattle.std.proofs.Common.{◌≡◌, ℕ, suc, ◌+◌, ◌*◌, ◌<◌, ◌≤◌, Bool, T, List, [], ◌∷◌, length, get_or, drop, sym, ap, ◌∙◌, subst, add-one, arith, length-drop, drop-cons}
 use Rattle.lts.specs.declared.Transition.{Transition}
 use Rattle.lts.specs.Machine.{Among}
 use Rattle.lts.specs.Formula.{any_step}
 use Rattle.lts.specs.Decoding.{transitions_of}
 use Rattle.theory.proofs.Places.{among_at, any_place, place_any}
 use Rattle.chains.proofs.Decoded.{no_transition, how_many, at_place}
-use Rattle.chains.specs.System.{source_at, label_at, target_at}
+use Rattle.chains.specs.System.{source_at, label_at, target_at, transition_at}
 
 -- some transition of the words from s by a passes: at some place
 pub step_place : (ws : List ℕ) (g s a : ℕ) (f : ℕ → Bool) → length ws ≡ 3 * g → T (any_step (transitions_of ws) s a f)
@@ -32,3 +32,20 @@ place_among ws g s a i h l x y =
   where
     same_go : {s a t s' a' : ℕ} → s ≡ s' → a ≡ a' → ◌≡◌ {A = Transition} (record { source = s; label = a; target = t }) (record { source = s'; label = a'; target = t })
     same_go {t = t} p q j = record { source = p j; label = q j; target = t }
+
+-- what comes next, where k transitions of the words have come
+pub next_is : (ws : List ℕ) (g k : ℕ) (t : Transition) (rest : List Transition) → length ws ≡ 3 * g → drop k (transitions_of ws) ≡ t ∷ rest → (k < g) × (t ≡ transition_at ws k) × (rest ≡ drop (k + 1) (transitions_of ws))
+next_is ws g k t rest h e =
+    let ts = transitions_of ws in
+    let many = how_many ws g h in
+    let long = ap length e in
+    let below : k < length ts = omega (arith, long, length-drop k ts) in
+    let cut = drop-cons ts k no_transition below in
+    let at = at_place ws k no_transition (omega arith) in
+    let here : t ≡ get_or ts k no_transition = cc in
+    let after : rest ≡ drop (suc k) ts = cc in
+    (omega arith, here ∙ at, after ∙ ap (λ i. drop i ts) (sym (add-one k)))
+
+-- nothing comes next: all have come
+pub none_next : (ws : List ℕ) (g k : ℕ) → length ws ≡ 3 * g → drop k (transitions_of ws) ≡ [] → g ≤ k
+none_next ws g k h e = omega (arith, how_many ws g h, ap length e, length-drop k (transitions_of ws))

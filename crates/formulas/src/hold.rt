@@ -3,7 +3,7 @@ ghost use Rattle.std.specs.Prelude.{◌≡◌, ◌<◌, ◌&&◌, length, if◌t
 ghost use Rattle.formulas.specs.Marks.{Holding};
 
 use chains::System;
-use lts::Transition;
+use lts::{Transition, Transitions};
 
 // Marks the source of a transition if that is by `label` into a state with `agree` 1.
 fn mark_source(t: Transition, label: u32, agree: &[u32], holds: &mut [u32])
@@ -23,8 +23,10 @@ pub fn mark_holding(system: System, label: u32, agree: &[u32], holds: &mut [u32]
     ensures { Holding system.entry.words.now agree.now label (length system.entry.next.now) holds.new }
 {
     lent::fill(holds, 0);
-    // Kept: the index. It is what names a transition, and no slice is read by it here.
-    for j in 0..system.next.len() {
-        mark_source(system.transition(j), label, agree, holds);
+    let transitions = Transitions {
+        words: system.words,
+    };
+    for t in transitions {
+        mark_source(t, label, agree, holds);
     }
 }
