@@ -108,16 +108,17 @@ fn answer_all(rt: &HostRuntime, options: Options) -> Result<(), Stop> {
 fn report(rt: &HostRuntime, stop: Stop) -> Stop {
     match stop {
         Stop::Said => Stop::Said,
-        Stop::Output(e) => said(rt, "batch", e),
+        Stop::Output(e) | Stop::Stream(e) => said(rt, "batch", e),
         Stop::Memory => said(rt, "batch", "there is not enough memory"),
     }
 }
 
 // Does what the arguments ask for.
 fn run(rt: &HostRuntime) -> Result<(), Stop> {
-    let args: Vec<String> = env::args(rt)?.skip(1).collect(rt.alloc())?;
+    let args = env::args(rt).map_err(Stop::Stream)?;
+    let args: Vec<String> = args.skip(1).collect(rt.alloc())?;
     match parse_options(args.as_slice()) {
-        Ok(Command::Help) => Ok(rt.print(HELP)?),
+        Ok(Command::Help) => rt.print(HELP).map_err(Stop::Stream),
         Ok(Command::Answer(options)) => answer_all(rt, options).map_err(|stop| report(rt, stop)),
         Err(fault) => Err(said(rt, "batch", fault)),
     }

@@ -30,7 +30,11 @@ pub const QUESTIONS: [(&[u32], Result<Option<u32>, Unanswered>, Compared); 7] = 
         Ok(Some(2)),
         Compared::Differ(2, 3),
     ),
-    (&[1, 0, 0, 1], Err(Unanswered::NoMachine), Compared::NoMachine),
+    (
+        &[1, 0, 0, 1],
+        Err(Unanswered::NoMachine),
+        Compared::NoMachine,
+    ),
 ];
 
 // 4,096 states in a ring by 1, with a 2 from every even one to itself; the two that are asked about.

@@ -7,6 +7,7 @@ use crate::labels::{add_label, empty, has_label};
 use crate::system::{State, System};
 use crate::walk::Walk;
 
+// Kept: the length of the sets as a clause, since they are lent as `&mut` beside it.
 // A machine with a block for each state, and chains that may leave out transitions that are like one before them: by the same label into the same block.
 #[derive(Clone, Copy)]
 pub struct Blocks<'a> {

@@ -10,7 +10,7 @@ fn link(words: &[u32], first: &mut [u32], next: &mut [u32])
     requires unlinked { (s : ℕ) → s < length first.old → slice_index first.old s ≡ length next.old }
     ensures { Chained words.now first.new next.new }
 {
-    // Kept: the index. It is what is written down, and the words are read at three times it.
+    // Kept: the index. It is what is written down, and under `iter_mut` from the back a proof knows nothing of the links.
     for j in (0..next.len()).rev() {
         let source = words[3 * j] as usize;
         next[j] = first[source];

@@ -6,6 +6,7 @@ use crate::walk::Walk;
 use lts::Transition;
 
 // A machine, three words for each transition, with each state's first transition and each transition's next from the same state.
+// Kept: how many transitions there are stands for none, and a transition is three words, since lent words hold numbers.
 #[derive(Clone, Copy)]
 pub struct System<'a> {
     pub words: &'a [u32],

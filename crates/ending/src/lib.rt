@@ -15,7 +15,10 @@ use std::process::ExitCode;
 pub enum Stop {
     // what is wrong has been said
     Said,
+    // what could not be written or read
     Output(io::Error),
+    // the same, where a program tells it apart
+    Stream(io::Error),
     Memory,
 }
 

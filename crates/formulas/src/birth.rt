@@ -3,6 +3,7 @@ ghost use Rattle.std.specs.Prelude.{◌≡◌, ◌+◌, ◌*◌, ◌≤◌, ◌�
 ghost use Rattle.formulas.specs.Link.{birth_at, births_of};
 ghost use Rattle.formulas.specs.Adding.{birth_of};
 
+// Kept: births stand in four words each, since lent words hold numbers.
 // Of what a formula is made: in a round, for a transition by `label` to the state `reach` that the state `lack` does not match.
 #[derive(Clone, Copy)]
 pub struct Birth {

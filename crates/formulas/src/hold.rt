@@ -5,6 +5,7 @@ ghost use Rattle.formulas.specs.Marks.{Holding};
 use chains::System;
 use lts::{Transition, Transitions};
 
+// Kept: marks are 1 and 0, since lent words hold numbers.
 // Marks the source of a transition if that is by `label` into a state with `agree` 1.
 fn mark_source(t: Transition, label: u32, agree: &[u32], holds: &mut [u32])
     requires source { t.source < length holds.old }

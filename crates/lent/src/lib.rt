@@ -47,6 +47,7 @@ pub fn first_difference(xs: &[u32], ys: &[u32]) -> Option<usize>
 }
 
 // The first word that is not 0, or as many as there are words.
+// Kept: a number in place of an Option, here and below, since it is where a range begins or ends.
 pub fn first_nonzero(words: &[u32]) -> usize
     ensures within { result ≤ length words.now }
     ensures before { (k : ℕ) → k < result → slice_index words.now k ≡ 0 }

@@ -14,6 +14,7 @@ pub struct Answer<'a> {
 }
 
 // What an answer is called.
+// Kept: no Display, since the type is the observer's and the words are those of this text.
 fn name(compared: Compared) -> &'static str
     ensures { result.now ≡ name_words compared }
 {
