@@ -21,6 +21,8 @@ impl<'a> Reason<'a> {
     }
 }
 
+// What the lines so far draw.
+// Kept: `drafted` in its contracts in place of a Model, since it is what the drawing's own definitions are over.
 #[derive(Drop)]
 pub struct Sketch<'a> {
     pub title: Option<&'a str>,
@@ -56,6 +58,7 @@ impl<'a> Sketch<'a> {
     }
 
     // Where the machine starts, which is said once at most.
+    // Kept: the shape of `entitle`. A generic function for both and a call in each would be longer than the two.
     fn begin(&mut self, line: usize, name: &'a str) -> Result<(), Trouble<'a>>
         ensures { Follows result self.new (started line (drafted self.old) name.now (drafted self.old).start) }
     {
