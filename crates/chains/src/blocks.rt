@@ -26,10 +26,7 @@ impl<'a> Blocks<'a> {
         ensures links { result.links.now ≡ self.entry.links.now }
         ensures at { result.at ≡ slice_index self.entry.system.first.now s.0 }
     {
-        Walk {
-            links: self.links,
-            at: self.system.first[s.0] as usize,
-        }
+        Walk::of(s, self.system.first, self.links)
     }
 
     // The block that transition `j` leads into, and its label.

@@ -35,10 +35,7 @@ impl<'a> System<'a> {
         ensures links { result.links.now ≡ self.entry.next.now }
         ensures at { result.at ≡ slice_index self.entry.first.now s.0 }
     {
-        Walk {
-            links: self.next,
-            at: self.first[s.0] as usize,
-        }
+        Walk::of(s, self.first, self.next)
     }
 }
 
