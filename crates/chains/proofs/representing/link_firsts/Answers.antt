@@ -1,34 +1,7 @@
-use Rattle.std.proofs.Common.{List, ℕ, length, get_or, set, ap, refl, subst, ◌∙◌, arith}
-use Rattle.chains.specs.declared.walk.Walk.{Walk}
-use Rattle.chains.proofs.Walking.{stepped, begun, represented_all}
-use Rattle.chains.proofs.Adding.{added_none}
+use Rattle.std.proofs.Common.{List, ℕ, length, get_or, set, ap, subst, ◌∙◌, arith}
+use Rattle.chains.proofs.Walking.{stepped}
 use Rattle.chains.proofs.Firsts.{Firsts, firsts_end, firsts_next}
 use Rattle.chains.proofs.representing.link_firsts.Goals as goal
-
-pub loop-j-init : goal.loop-j-init
-loop-j-init c =
-    let is = c.into_iter-j-iterator.ensures.into_iter_gives in
-    let at = ap (λ (w : Walk). w.at) is in
-    let links = ap (λ (w : Walk). w.links.now) is ∙ c.walk-walk.ensures.links in
-    let system = c.args.blocks.system in
-    let all = represented_all system.words.now c.args.blocks.old.now system.first.now system.next.now system.chained in
-    let (here, none) = begun _ _ _ _ all c.args.s.0 c.requires.state _ (at ∙ c.walk-walk.ensures.at) in
-    let (latest, _) = begun _ _ _ _ all c.args.s.0 c.requires.state _ c.walk-walk.ensures.at in (
-      tt,
-      tt,
-      links,
-      record {
-        at = here;
-        latest = latest;
-        low = omega (arith, at);
-        covered = λ t l e. absurd (none t l e);
-        added = added_none _ _ _ _ _ none;
-        represented = c.requires.represented;
-        done = λ i l x. absurd (none i (omega (arith, at, l)) x);
-        pending = λ l. absurd (omega (arith, at, l));
-        kept = λ i n. refl;
-      },
-    )
 
 pub loop-j-preserved : goal.loop-j-preserved
 loop-j-preserved c =

@@ -1,15 +1,7 @@
-use Rattle.std.proofs.Common.{ap, ◌∙◌}
-use Rattle.chains.specs.declared.walk.Walk.{Walk}
-use Rattle.chains.proofs.Walking.{stepped, begun}
+use Rattle.std.proofs.Common.{◌∙◌}
+use Rattle.chains.proofs.Walking.{stepped}
 use Rattle.chains.proofs.Skipping.{emptied_next}
 use Rattle.chains.proofs.blocks.Blocks.empty_sets.Goals as goal
-
-pub loop-j-init : goal.loop-j-init
-loop-j-init c =
-    let is = c.into_iter-j-iterator.ensures.into_iter_gives in
-    let links = ap (λ (w : Walk). w.links.now) is ∙ c.walk-j-items.ensures.links in
-    let (here, none) = begun _ _ _ _ c.args.self.represented c.args.x.0 c.requires.state _ (ap (λ (w : Walk). w.at) is ∙ c.walk-j-items.ensures.at) in
-    (tt, tt, links, here, λ t l e. absurd (none t l e))
 
 pub loop-j-preserved : goal.loop-j-preserved
 loop-j-preserved c =
