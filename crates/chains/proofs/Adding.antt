@@ -2,7 +2,7 @@
 use Rattle.std.proofs.Common.{subst, ◌≡◌, ℕ, ◌<◌, Bool, true, false, cond, ◌&&◌, eqb, List, length, get_or, sym, refl, ◌∙◌, inl, inr, arith}
 use Rattle.std.specs.Coded.{Coded-set, coded_ℕ}
 use Rattle.std.proofs.lemmas.Bool.{cases_Bool, eq-eqb, cond-true, cond-false, eqb-true, and_parts, and_from}
-use Rattle.chains.specs.System.{source_at, label_at, Chained, Bounded}
+use Rattle.chains.specs.System.{label_at, Chained, Bounded}
 use Rattle.chains.specs.Labels.{in_set}
 use Rattle.chains.specs.Matching.{block_at, Represented, Added}
 use Rattle.chains.proofs.Walking.{At, Stepped, at_skip}
@@ -44,10 +44,6 @@ added_next ws fs ns old n y at j v b a before sets sets' c d st eb ea w' k' e = 
 
     low : j < get_or ns j 0
     low = omega (arith, (c.next j h).low)
-
--- before the first there is none
-pub added_none : (ws old : List ℕ) (y at : ℕ) (before : List ℕ) → ((t : ℕ) → t < at → source_at ws t ≡ y → ⊥) → Added ws old at y before before
-added_none ws old y at before none = record { listed = λ t l e. absurd (none t l e); only = λ b a l z o. absurd (omega (arith, z, o)) }
 
 -- chains that leave out some have as many links
 pub bounded_by : (n : ℕ) (ws ns ms : List ℕ) {old fs gs : List ℕ} → Chained ws gs ns → Represented ws old fs ms → Bounded n ws ns → Bounded n ws ms

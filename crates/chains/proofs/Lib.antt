@@ -1,6 +1,4 @@
-pub mod Linking
 pub mod Walking
-pub mod Sets
 pub mod Skipping
 pub mod Adding
 pub mod Firsts

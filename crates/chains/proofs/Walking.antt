@@ -66,11 +66,3 @@ pub record Stepped (ns : List ℕ) (at j v : ℕ) : Type 0 where
 
 pub stepped : (ns links : List ℕ) (at j v : ℕ) → links ≡ ns → j ≡ at → at < length links → v ≡ get_or links at 0 → Stepped ns at j v
 stepped ns links at j v e f h g = record { was = sym f; within = omega (arith, ap length e, f, h); on = ap (λ i. get_or ns i 0) f ∙ sym (ap (λ l. get_or l at 0) e) ∙ sym g }
-
--- a walk along representatives begins
-pub begun : (ws old fs ns : List ℕ) → Represented ws old fs ns → (s : ℕ) → s < length fs → (at : ℕ) → at ≡ get_or fs s 0 → At ws (length ns) s at × ((t : ℕ) → t < at → source_at ws t ≡ s → ⊥)
-begun ws old fs ns c s h at e = (subst (λ i. At ws (length ns) s i) (sym e) (at_first ws old fs ns c s h), λ t l x. none_before ws old fs ns c s h t (omega (arith, e, l)) x)
-
--- where a walk along the chain of s was there is a transition of s
-pub of_state : (ws ns : List ℕ) (s at j v : ℕ) → Stepped ns at j v → At ws (length ns) s at → source_at ws j ≡ s
-of_state ws ns s at j v st w = ap (source_at ws) (sym st.was) ∙ w.here (omega (arith, st.was, st.within))

@@ -1,17 +1,9 @@
 use Rattle.std.proofs.Common.{◌≡◌, ◌*◌, length, sym, ap, ◌∙◌, subst, arith}
-use Rattle.std.proofs.lemmas.Nat.{mul-le}
 use Rattle.chains.specs.System.{machine_of, Bounded}
 use Rattle.refine.specs.Askable.{Askable}
 use Rattle.refine.proofs.Facts.{length_births}
 use Rattle.refine.proofs.Starting.{bounded_of, start_after}
 use Rattle.refine.proofs.lending.refine.Goals as goal
-
-pub split_at_mut-rows-requires : goal.split_at_mut-rows-requires
-split_at_mut-rows-requires c =
-    let n = c.args.states in
-    let w = c.row_width-width.result in
-    let wide = mul-le n w 4096 w c.requires.askable.few (omega arith) in
-    omega (arith, wide, c.requires.enough, c.requires.askable.whole, c.requires.askable.few, c.row_width-width.ensures.narrow, c.split_at_mut-next.ensures.back_len, c.split_at_mut-links.ensures.back_len, c.split_at_mut-first.ensures.back_len, c.split_at_mut-old.ensures.back_len, c.split_at_mut-leads.ensures.back_len, c.split_at_mut-births.ensures.back_len, c.split_at_mut-scratch.ensures.back_len)
 
 pub chain-requires-clause-sources : goal.chain-requires-clause-sources
 chain-requires-clause-sources c =

@@ -48,12 +48,6 @@ returns-then-after-count c =
     let after = settled s c.begin_round-blocks.result.system c.begin_round-blocks.ensures.machine c.run_round-after.ensures in
     done (machine s) (closed s) c.loop-count.number c.args.width c.loop-count.births c.loop-count.count c.loop-count.rows c.loop-count.leads h c.run_round-after.new.births c.run_round-after.result c.run_round-after.new.rows c.run_round-after.new.leads after c.if-after-count.true
 
-pub overflow_add-number : goal.overflow_add-number
-overflow_add-number c =
-    let s = c.args.system in
-    let h = c.loop-count.invariant in
-    omega (arith, late (machine s) (closed s) c.loop-count.number c.args.width c.loop-count.births c.loop-count.count c.loop-count.rows c.loop-count.leads h, few (machine s) (closed s) c.loop-count.number c.args.width c.loop-count.births c.loop-count.count c.loop-count.rows c.loop-count.leads h, c.requires.fixed.few)
-
 pub loop-count-smaller : goal.loop-count-smaller
 loop-count-smaller c =
     let s = c.args.system in
