@@ -1,8 +1,6 @@
 -- Walking along the chain of a state.
 use Rattle.std.proofs.Common.{◌≡◌, ℕ, suc, ◌<◌, ◌≤◌, ◌⊎◌, List, length, get_or, sym, refl, ap, ◌∙◌, subst, inl, inr, arith}
 use Rattle.std.proofs.lemmas.Bool.{cases_order, cases_lt}
-use mathlib.Core.HLevel.{⊥_prop}
-use mathlib.Core.Logic.{∥∥₁_elim}
 use Rattle.chains.specs.System.{source_at, NextFrom, Chained}
 use Rattle.chains.specs.Matching.{Covered, SkipsTo, Represented}
 
@@ -42,14 +40,6 @@ represented_all ws old fs ns c = record {
 }
 
 module _ (ws old fs ns : List ℕ) (c : Represented ws old fs ns) (s : ℕ) where
-  -- the walk begins at the first
-  pub at_first : s < length fs → At ws (length ns) s (get_or fs s 0)
-  at_first h = record { high = (c.first s h).high; here = (c.first s h).here }
-
-  -- before it there is none
-  pub none_before : s < length fs → (t : ℕ) → t < get_or fs s 0 → source_at ws t ≡ s → ⊥
-  none_before h t l e = ∥∥₁_elim ((c.first s h).covered t l e) ⊥_prop (λ p. let (r, k, _, _, _) = p in omega (arith, k))
-
   module _ (j : ℕ) (h : j < length ns) (w : At ws (length ns) s j) where
     pub at_skip : At ws (length ns) s (get_or ns j 0)
     at_skip = record { high = (c.next j h).high; here = λ l. (c.next j h).here l ∙ w.here h }

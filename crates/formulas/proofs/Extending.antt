@@ -7,7 +7,7 @@ use Rattle.std.proofs.lemmas.Slice.{between-put_mid, take-put_mid_below, drop-pu
 use Rattle.std.proofs.lemmas.Bool.{cases_lt}
 use Rattle.lent.specs.Bits.{bit_at, Agree}
 use Rattle.formulas.specs.Link.{row_of}
-use Rattle.formulas.specs.Marks.{Tells, Agreeing, Extended, RowExtended, bit_with}
+use Rattle.formulas.specs.Marks.{Tells, Agreeing, RowExtended, bit_with}
 use Rattle.formulas.proofs.Slices.{set_here, set_else, below_or}
 
 -- a row ends before a later one begins, and within the rows
@@ -56,20 +56,6 @@ row_set rows holds ys w p s k e h x l b =
 
     bit_is : (q x old : ℕ) → x ≡ 1 → bit_with p q x old ≡ cond (eqb q p) 1 old
     bit_is q x old e = ap (λ y. bit_with p q y old) e ∙ with_1 (eqb q p) old
-
--- the step of the loop that extends rows
-pub extended_more : (rows holds new new' : List ℕ) (w p k : ℕ) → k < length holds → length new ≡ length holds * w → Extended rows holds w p k new → RowExtended new holds w p k new'
-    → Extended rows holds w p (k + 1) new'
-extended_more rows holds new new' w p k h l e r = record {
-  done = λ s q g. elim (below_or s k g) [
-    | inl o ↦
-        let b = row_end s (length holds) w (omega arith) in
-        ap (λ x. bit_at x q) (r.other s (λ i. omega arith) (omega arith)) ∙ e.done s q o
-    | inr o ↦ subst (λ i. bit_at (row_of new' w i) q ≡ bit_with p q (get_or holds i 0) (bit_at (row_of rows w i) q)) (sym o)
-        (r.here q ∙ ap (λ x. bit_with p q (get_or holds k 0) (bit_at x q)) (e.later k (omega arith) h))
-  ];
-  later = λ s g o. let b = row_end s (length holds) w o in r.other s (λ i. omega arith) (omega arith) ∙ e.later s (omega arith) o;
-}
 
 -- the step of the loop that marks states that agree
 pub agreeing_more : (rows mask marks : List ℕ) (w u k x : ℕ) → k < length marks → Agreeing rows w u mask k marks → Tells x (Agree (row_of rows w u) (row_of rows w k) mask)

@@ -1,20 +1,10 @@
-use Rattle.std.proofs.Common.{◌≡◌, ◌+◌, ◌&&◌, List, ℕ, [], ◌∷◌, ◌++◌, cond, eqb, length, get_or, set, drop, sym, ap, ◌∙◌, subst, inr, arith, length-append}
+use Rattle.std.proofs.Common.{◌≡◌, ◌+◌, ◌&&◌, List, ℕ, [], ◌∷◌, ◌++◌, cond, eqb, length, get_or, set, drop, sym, ap, ◌∙◌, subst, arith, length-append}
 use Rattle.lts.specs.declared.Transition.{Transition}
-use Rattle.lts.specs.declared.Transitions.{Transitions}
 use Rattle.lts.specs.Decoding.{transitions_of}
 use Rattle.formulas.specs.Marks.{Holding}
 use Rattle.formulas.proofs.Marking.{holding_more}
 use Rattle.formulas.proofs.Transitions.{next_is, none_next}
 use Rattle.formulas.proofs.hold.mark_holding.Goals as goal
-
-pub loop-t-init : goal.loop-t-init
-loop-t-init c = (
-  tt,
-  tt,
-  omega arith,
-  ap (λ (w : Transitions). transitions_of w.words.now) c.into_iter-t-iterator.ensures.into_iter_gives,
-  λ s h. inr (c.fill.ensures s h, λ e. let below = e.below in omega arith),
-)
 
 pub mark_source-requires : goal.mark_source-requires
 mark_source-requires c =
