@@ -1,17 +1,11 @@
 use Rattle.std.proofs.Common.{◌≡◌, ◌+◌, ◌-◌, subst, arith}
-use Rattle.theory.specs.Told.{demand_one}
-use Rattle.lines.specs.Marked.{Demanded, Marking, wanted_in}
+use Rattle.lines.specs.Marked.{Marking, wanted_in}
 use Rattle.lines.proofs.Passing.{within}
-use Rattle.lines.proofs.Counted.{starts, goes_on, ends, few}
+use Rattle.lines.proofs.Counted.{goes_on, ends, few}
 use Rattle.lines.proofs.marking.mark.Goals as goal
 
 pub mark_one-requires-clause-needed : goal.mark_one-requires-clause-needed
 mark_one-requires-clause-needed c = omega (arith, within c.args.refined c.args.j c.requires.formula, c.requires.needed)
-
-pub loop-i-init : goal.loop-i-init
-loop-i-init c =
-    starts c.args.refined c.args.j c.args.negate c.mark_one.new.needed c.mark_one.new.negated
-    (subst (λ w. Demanded (demand_one c.args.j c.args.negate) w c.mark_one.new.needed c.mark_one.new.negated) c.requires.needed c.mark_one.ensures)
 
 pub overflow_add-lines : goal.overflow_add-lines
 overflow_add-lines c =

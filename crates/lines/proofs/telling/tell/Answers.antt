@@ -15,16 +15,6 @@ write_line-requires c = omega (arith, c.requires.room, c.args.needs.marked.size,
 pub loop-j-init : goal.loop-j-init
 loop-j-init c = (sym (tell_none (machine_in c.args.needs.refined) (all_needed c.args.needs)), λ i o t. absurd (omega arith), λ before w. w)
 
-pub tell_formula-next-requires : goal.tell_formula-next-requires
-tell_formula-next-requires c = record {
-  formula = c.loop-j-test.true;
-  next = c.loop-j.invariant.0;
-  mask = omega (arith, c.requires.mask);
-  places = omega (arith, c.requires.places);
-  placed = c.loop-j.invariant.1;
-  room = omega (arith, c.requires.room);
-}
-
 pub loop-j-preserved : goal.loop-j-preserved
 loop-j-preserved c =
     let told = c.tell_formula-next.ensures in
