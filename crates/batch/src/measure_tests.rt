@@ -10,6 +10,7 @@ fn distance(heap: Global, words: &[u32]) -> Result<Result<Option<u32>, Unanswere
     Ok(measure(words, work.as_mut_slice()))
 }
 
+// Kept: the loop of the other call's test, over the same table.
 #[test]
 fn small_questions(rt: HostRuntime) -> Result<(), Fail> {
     for (words, answer, _) in QUESTIONS {

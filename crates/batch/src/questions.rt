@@ -40,6 +40,7 @@ pub const QUESTIONS: [(&[u32], Result<Option<u32>, Unanswered>, Compared); 7] = 
 // 4,096 states in a ring by 1, with a 2 from every even one to itself; the two that are asked about.
 pub fn ring(heap: Global, first: u32, second: u32) -> Result<Vec<u32>, Fail> {
     let mut words = vec![in heap; 4096, 6144]?;
+    // Kept: the range. Its numbers are what is written.
     for s in 0..4096u32 {
         words.extend_from_slice(&[s, 1, (s + 1) % 4096])?;
         if s % 2 == 0 {

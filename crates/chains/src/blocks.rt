@@ -54,6 +54,7 @@ impl<'a> Blocks<'a> {
     }
 
     // Puts the label of each transition of `y` into the set of the block that it leads into.
+    // Kept: the shape of `empty_sets`, with another call. A closure that writes the sets is none that a proof sees through.
     fn add_labels(self, y: State, sets: &mut [u32])
         requires room { length sets.old ≡ 2 * length self.system.first.now }
         requires state { y.0 < length self.system.first.now }
@@ -71,6 +72,7 @@ impl<'a> Blocks<'a> {
         ensures { FirstMissing self.entry.system.words.now self.entry.old.now (length self.entry.links.now) x.0 sets.now result }
     {
         let mut walk = self.walk(x);
+        // Kept: a labelled loop that yields by `break`, as a rule of the project has it here.
         'search: loop {
             let Some(j) = walk.next() else {
                 break 'search None;
@@ -96,6 +98,7 @@ impl<'a> Blocks<'a> {
 }
 
 // The first transition of `x` that `y` does not match: it has none by the same label into the same block of `old`.
+// Kept: one call of the method, for who has a machine and no Blocks.
 pub fn unmatched(system: System, old: &[u32], x: usize, y: usize, sets: &mut [u32]) -> Option<usize>
     requires each { length old.now ≡ length system.first.now }
     requires within { (s : ℕ) → s < length system.first.now → slice_index old.now s < length system.first.now }

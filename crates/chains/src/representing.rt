@@ -9,6 +9,7 @@ use crate::labels::{add_label, has_label};
 use crate::system::{State, System};
 
 // Puts the label of transition `j` into the set of the block that it leads into. Gives `j` if it was not there, else `last`.
+// Kept: lengths as clauses, since the words are lent as `&mut` beside the value.
 fn add_label_of(blocks: Blocks, j: usize, last: usize, sets: &mut [u32]) -> usize
     requires room { length sets.old ≡ 2 * length blocks.system.first.now }
     requires transition { j < length blocks.links.now }
@@ -22,6 +23,7 @@ fn add_label_of(blocks: Blocks, j: usize, last: usize, sets: &mut [u32]) -> usiz
 }
 
 // Links of the transitions of `s` the first by each label into each block. The sets of these blocks are empty.
+// Kept: lengths as clauses, since the words are lent as `&mut` beside the value.
 fn link_firsts(blocks: Blocks, s: State, sets: &mut [u32], links: &mut [u32])
     requires whole { blocks.links.now ≡ blocks.system.next.now }
     requires room { length sets.old ≡ 2 * length blocks.system.first.now }
@@ -42,6 +44,7 @@ fn link_firsts(blocks: Blocks, s: State, sets: &mut [u32], links: &mut [u32])
 }
 
 // A machine with a block for each state, and chains of representatives: of each state's transitions the first by each label into each block.
+// Kept: lengths as clauses, since the words are lent as `&mut` beside the value.
 pub fn represent<'a>(
     system: System<'a>,
     old: &'a [u32],

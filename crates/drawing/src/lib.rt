@@ -130,7 +130,7 @@ pub fn parse<'a>(heap: Global, text: &'a str) -> Result<Drawing, Trouble<'a>>
 }
 
 // The text of a drawing, which draws it again.
-// Kept: pushed and no Display, since a name is written by push_name, which appends to a String.
+// Kept: no Display. A name is written by `push_name`, which appends to a String and may find no memory.
 #[tactic(auto, using(crate::proofs::Again::again))]
 pub fn print(heap: Global, drawing: &Drawing) -> Result<String, AllocError>
     ensures bytes { IfOk result (λ s. string_bytes s ≡ text_of (planned drawing.now)) }

@@ -22,7 +22,7 @@ impl<'a> Reason<'a> {
 }
 
 // What the lines so far draw.
-// Kept: `drafted` in its contracts in place of a Model, since it is what the drawing's own definitions are over.
+// Kept: no impl Model. Contracts speak of `drafted` of a sketch, which the definitions of a drawing are over.
 #[derive(Drop)]
 pub struct Sketch<'a> {
     pub title: Option<&'a str>,

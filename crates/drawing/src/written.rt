@@ -15,7 +15,7 @@ use script::push_name;
 use std::alloc::AllocError;
 
 // The name with the number `i`, or nothing.
-// Kept: a drawing's numbers are those of names, but unwrap would ask that of each call.
+// Kept: no `unwrap`. A drawing's numbers all have a name, but each contract up to `print` would have to ask for that.
 pub fn name_at(table: &Names, i: usize) -> &str
     ensures { result.now ≡ slice_index_or (names table.now) i [] }
 {

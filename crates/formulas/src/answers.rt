@@ -50,6 +50,7 @@ impl<'a> Answers<'a> {
     }
 
     // Marks each state whose answers agree with `reach`'s on the mask.
+    // Kept: lengths as clauses, since the words are lent as `&mut` beside the value.
     fn mark_agreeing(self, reach: State, mask: &[u32], agree: &mut [u32])
         requires reach { reach.0 < length self.system.first.now }
         requires mask { length mask.now ≡ self.width }
@@ -63,6 +64,7 @@ impl<'a> Answers<'a> {
     }
 
     // Sets the bit in which the row of a transition's target first differs from `reach`'s, if the transition is by the birth's label.
+    // Kept: lengths as clauses, since the words are lent as `&mut` beside the value.
     fn mark_term(self, j: usize, birth: Birth, mask: &mut [u32])
         requires transition { j < length self.system.next.now }
         requires reach { birth.reach < length self.system.first.now }

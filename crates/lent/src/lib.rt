@@ -106,6 +106,7 @@ pub fn agree_within(xs: &[u32], ys: &[u32], mask: Mask) -> bool
 }
 
 // Whether two rows have the same bits where the mask has one. All have the same length.
+// Kept: one call of the function above, for who asks once and makes no Mask.
 pub fn agree(xs: &[u32], ys: &[u32], mask: &[u32]) -> bool
     requires xs { length xs.now ≡ length mask.now }
     requires ys { length ys.now ≡ length mask.now }
@@ -134,6 +135,7 @@ pub fn unite(words: &mut [u32], mask: &[u32])
 }
 
 // Sets the bits that the mask has and the row lacks. All have the same length.
+// Kept: the shape of `unite`. A function of both would take what is joined as a closure.
 pub fn unite_lacking(words: &mut [u32], mask: &[u32], row: &[u32])
     requires words { length words.old ≡ length mask.now }
     requires row { length row.now ≡ length mask.now }

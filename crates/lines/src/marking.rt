@@ -18,6 +18,7 @@ fn lines_for(terms: usize, negated: bool) -> usize
 }
 
 // If formula `j` is needed, so are its terms, negated where its reached state lacks them. Gives how many lines it takes.
+// Kept: lengths as clauses, since the words are lent as `&mut` beside the value.
 fn pass_on(
     refined: Refined,
     j: usize,

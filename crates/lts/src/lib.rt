@@ -17,7 +17,7 @@ pub struct Transition {
 
 impl Transition {
     // The transition whose words a slice starts with, or none where it has fewer than three.
-    // Kept: no TryFrom, since a rule of the project has a transition read from a slice that starts at its words.
+    // Kept: no TryFrom, since a rule of the project has a function here that takes the slice which starts at a transition's words.
     pub fn starting(words: &[u32]) -> Option<Transition>
         ensures { result ≡ first_transition words.now }
     {

@@ -4,7 +4,7 @@ ghost use Rattle.names.specs.Table.{Apart};
 use indexmap::IndexSet;
 
 // Names in the order of their numbers, no two of them equal.
-// Kept: contracts above read a table by names, of the specs; under an impl Model that would be the identity.
+// Kept: no impl Model. Contracts speak of `names` of a table, which specs define over the table itself.
 #[derive(Drop)]
 pub struct Names {
     pub(crate) list: IndexSet<String>,

@@ -1,6 +1,6 @@
 // What comparing two states tells.
 
-// Kept: an enum of its own in place of a Result of an Option, since a rule of the project fixes its variants.
+// Kept: no Result of an Option, since the signature of `compare` and these variants are a rule of the project.
 // The two are bisimilar; or they differ, so many steps ahead, by so many lines; or the lines don't fit; or why nothing is told.
 #[derive(Clone, Copy, PartialEq, Debug)]
 pub enum Compared {

@@ -14,6 +14,7 @@ pub struct Counts {
 }
 
 // A machine that was refined: for each state its answers to the formulas and its leader; and the births of the formulas, four words each.
+// Kept: leaders by state and births by formula in words of their own, since lent words hold numbers.
 #[derive(Clone, Copy)]
 pub struct Refined<'a> {
     pub answers: Answers<'a>,

@@ -108,6 +108,7 @@ fn run_round(
 }
 
 // The blocks with which a round begins: those of the leaders, which are kept as they are then.
+// Kept: lengths as clauses, since the words are lent as `&mut` beside the value.
 fn begin_round<'a>(
     system: System<'a>,
     leads: &[u32],

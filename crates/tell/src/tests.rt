@@ -82,6 +82,7 @@ fn texts_are_refused(rt: HostRuntime) -> Result<(), Fail> {
 // A machine with n states in a row, and n - 1 different buttons.
 fn row(heap: Global, n: u32) -> Result<String, Fail> {
     let mut text = String::from_str(heap, "start s0\nstate s0\n")?;
+    // Kept: the range. Its numbers are what is written.
     for i in 1..n {
         let before = i - 1;
         text.push_str(format!(in heap; "s{before}: b{i} -> s{i}\n")?.as_str())?;
