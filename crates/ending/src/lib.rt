@@ -1,7 +1,7 @@
 // How the run of a program ends it.
 #![tactic(auto)]
 
-ghost use Rattle.std.specs.Prelude.{◌≡◌, ◌≢◌, IsOk, IsErr, IsOkAnd, IsErrAnd, Err};
+ghost use Rattle.std.specs.Prelude.{◌≡◌, ◌≢◌, IsOk, IsErr, IsOkAnd, IsErrAnd, Err, MatchResult};
 ghost use Rattle.std.specs.Process.{exit_status};
 ghost use Rattle.ending.specs.declared.Stop.TheVariants.{Output, Memory};
 
@@ -40,14 +40,21 @@ impl From<AllocError> for Stop {
     }
 }
 
+// Why a run stops once what is wrong was to be written: it has been said, or could not be.
+fn stopped(written: io::Result<()>) -> Stop
+    ensures { MatchResult written (λ _. result ≡ Stop.Said) (λ e. result ≡ Stop.Output e) }
+{
+    match written {
+        Ok(()) => Stop::Said,
+        Err(e) => Stop::from(e),
+    }
+}
+
 // Says what is wrong, after the program's name, and gives why the run stops: that it has been said, or can't be.
 pub fn said(rt: &impl Eprint, program: &str, wrong: impl Display + Drop) -> Stop
     ensures { result ≢ Stop.Memory }
 {
-    match eprintln!(rt; "{program}: {wrong}") {
-        Ok(()) => Stop::Said,
-        Err(e) => Stop::from(e),
-    }
+    stopped(eprintln!(rt; "{program}: {wrong}"))
 }
 
 // How a run ends the program: what has been said is not said again; another error goes to who runs `main`, which prints it.
