@@ -2,6 +2,7 @@
 use Rattle.std.proofs.Common.{◌≡◌, ℕ, zero, suc, ◌+◌, ◌*◌, ◌/◌, ◌%◌, ◌^◌, ◌<◌, ◌≤◌, min, max, Bool, true, false, cond, eqb, List, length, get_or, set, ◌≢◌, sym, refl, ap, ◌∙◌, subst, ap₂, inl, inr, pow-suc, arith, get_or-set_other, get_or-set_same, shr-shr}
 use native.Mathlib.Nat.{zero-div}
 use borrow.Author.Numbers.{trailing_lt}
+use lib.Arith.{lt-one}
 use lib.Bits.{bit_and, bit_or, bit_xor, and_step, or_step, xor_add_and, and_shr, or_shr, xor_shr, and_le_l, and_le_r, xor_lt}
 use lib.Count.{count_trailing_zeros, under}
 use lib.Dec.{eqb-zero-suc, eqb-suc-zero, eqb-suc-suc}
@@ -87,6 +88,18 @@ max_cond false n h = omega arith
 pub bit_set : (n j k : ℕ) → bit (bit_or n (2 ^ j)) k ≡ cond (eqb k j) 1 (bit n k)
 bit_set n j k =
     bit-bit_or n (2 ^ j) k ∙ ap (λ (x : ℕ). max (bit n k) x) (bit_pow j k) ∙ max_cond (eqb k j) (bit n k) (bit_below n k)
+
+-- ---- words with the same bits
+
+-- words with the same bits are equal
+pub same_word : (w a b : ℕ) → a < 2 ^ w → b < 2 ^ w → ((k : ℕ) → k < w → bit a k ≡ bit b k) → a ≡ b
+same_word zero a b ha hb h = lt-one ha ∙ sym (lt-one hb)
+same_word (suc w) a b ha hb h =
+    let p = pow-suc 2 w in
+    let low : a % 2 ≡ b % 2 = sym (bit_first a) ∙ h 0 (omega arith) ∙ bit_first b in
+    let high : a / 2 ≡ b / 2 = same_word w (a / 2) (b / 2) (omega arith) (omega arith)
+    (λ k l. sym (bit_next a k) ∙ h (suc k) (omega arith) ∙ bit_next b k) in
+    omega arith
 
 -- ---- the lowest set bit
 
@@ -243,3 +256,8 @@ first_in_word xs ys i l fx fy ne same =
             subst (λ (j : ℕ). bit_at xs j ≡ bit_at ys j) (sym e) eq
       ];
     }
+
+-- equal rows have no first difference but the end
+pub first_of_same : (xs ys : List ℕ) (j : ℕ) → ((i : ℕ) → bit_at xs i ≡ bit_at ys i) → FirstDifference xs ys j → j ≡ 32 * length xs
+first_of_same xs ys j same f =
+    elim (cases_lt j (32 * length xs)) [ inl l ↦ absurd (f.differs l (same j)) | inr l ↦ omega (arith, f.within) ]

@@ -112,7 +112,12 @@ pub fn agree(xs: &[u32], ys: &[u32], mask: &[u32]) -> bool
     requires ys { length ys.now ≡ length mask.now }
     ensures { Decides result (Agree xs.now ys.now mask.now) }
 {
-    agree_within(xs, ys, Mask::of(mask))
+    let whole = Mask {
+        words: mask,
+        from: 0,
+        to: mask.len(),
+    };
+    agree_within(xs, ys, whole)
 }
 
 // How many bits are set.
