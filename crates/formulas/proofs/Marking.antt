@@ -109,3 +109,7 @@ terms_next ws fs ns rows w a u y at j v before after c st at' l ts' m =
 
     ts : Terms ws rows w a u y j before
     ts = subst (λ i. Terms ws rows w a u y i before) st.was ts'
+
+-- before the first transition of y there is no term
+pub terms_none : (ws fs ns rows : List ℕ) (w a u y : ℕ) (mask : List ℕ) → Chained ws fs ns → y < length fs → ((q : ℕ) → bit_at mask q ≡ 0) → Terms ws rows w a u y (get_or fs y 0) mask
+terms_none ws fs ns rows w a u y mask c h z q = inr (z q, λ t. (c.first y h).none t.place (omega arith) t.below t.source)
