@@ -1,6 +1,8 @@
 -- Walking along the chain of a state.
 use Rattle.std.proofs.Common.{◌≡◌, ℕ, suc, ◌<◌, ◌≤◌, ◌⊎◌, List, length, get_or, sym, refl, ap, ◌∙◌, subst, inl, inr, arith}
 use Rattle.std.proofs.lemmas.Bool.{cases_order, cases_lt}
+use mathlib.Core.HLevel.{⊥_prop}
+use mathlib.Core.Logic.{∥∥₁_elim}
 use Rattle.chains.specs.System.{source_at, NextFrom, Chained}
 use Rattle.chains.specs.Matching.{Covered, SkipsTo, Represented}
 
@@ -40,6 +42,14 @@ represented_all ws old fs ns c = record {
 }
 
 module _ (ws old fs ns : List ℕ) (c : Represented ws old fs ns) (s : ℕ) where
+  -- the first transition of s
+  pub at_first : (at : ℕ) → s < length fs → at ≡ get_or fs s 0 → At ws (length ns) s at
+  at_first at h e = subst (At ws (length ns) s) (sym e) (record { high = (c.first s h).high; here = (c.first s h).here })
+
+  -- before it there is none
+  pub none_before : (at : ℕ) → s < length fs → at ≡ get_or fs s 0 → (t : ℕ) → t < at → source_at ws t ≡ s → ⊥
+  none_before at h e t l f = ∥∥₁_elim ((c.first s h).covered t (omega (arith, l, e)) f) ⊥_prop (λ p. let (r, k, _, _, _) = p in omega (arith, k))
+
   module _ (j : ℕ) (h : j < length ns) (w : At ws (length ns) s j) where
     pub at_skip : At ws (length ns) s (get_or ns j 0)
     at_skip = record { high = (c.next j h).high; here = λ l. (c.next j h).here l ∙ w.here h }

@@ -8,7 +8,7 @@ mod representing;
 mod system;
 mod walk;
 
-pub use blocks::{Blocks, unmatched};
+pub use blocks::{Blocks, Representatives, unmatched};
 pub use chaining::chain;
 pub use labels::{add_label, empty, has_label};
 pub use representing::represent;

@@ -16,7 +16,7 @@ fn add_label_of(blocks: Blocks, j: usize, last: usize, sets: &mut [u32]) -> usiz
     ensures latest { result ≡ (if nat_eq (in_set sets.old (block_at blocks.entry.system.words.now blocks.entry.old.now j) (label_at blocks.entry.system.words.now j)) 1 then last else j) }
     ensures added { (b a : ℕ) → a < 64 → in_set sets.new b a ≡ (if nat_eq b (block_at blocks.entry.system.words.now blocks.entry.old.now j) && a == label_at blocks.entry.system.words.now j then 1 else in_set sets.old b a) }
 {
-    let (block, label) = blocks.kind(j);
+    let (block, label) = blocks.representatives().kind(j);
     let listed = has_label(sets, block, label);
     add_label(sets, block, label);
     if listed { last } else { j }
@@ -43,32 +43,48 @@ fn link_firsts(blocks: Blocks, s: State, sets: &mut [u32], links: &mut [u32])
     }
 }
 
-// A machine with a block for each state, and chains of representatives: of each state's transitions the first by each label into each block.
+// Links of the transitions of each state the first by each label into each block of `old`.
 // Kept: lengths as clauses, since the words are lent as `&mut` beside the value.
-pub fn represent<'a>(
-    system: System<'a>,
-    old: &'a [u32],
-    sets: &mut [u32],
-    links: &'a mut [u32],
-) -> Blocks<'a>
+pub fn represent(system: System, old: &[u32], sets: &mut [u32], links: &mut [u32])
     requires each { length old.now ≡ length system.first.now }
     requires within { (s : ℕ) → s < length system.first.now → slice_index old.now s < length system.first.now }
     requires room { length sets.old ≡ 2 * length system.first.now }
     requires links { length links.old ≡ length system.next.now }
-    ensures machine { result.system ≡ system.entry }
-    ensures blocks { result.old.now ≡ old.now }
-    ensures firsts { (j : ℕ) → j < length system.entry.next.now → LeadsOn system.entry.words.now old.now (length system.entry.next.now) j (slice_index result.links.now j) }
+    ensures represented { Represented system.entry.words.now old.now system.entry.first.now links.new }
+    ensures firsts { (j : ℕ) → j < length system.entry.next.now → LeadsOn system.entry.words.now old.now (length system.entry.next.now) j (slice_index links.new j) }
 {
-    let all = Blocks {
+    let whole = Blocks {
         system,
         old,
         links: system.next,
     };
+    let all = whole.representatives();
     links.copy_from_slice(system.next);
     // Kept: the index. It is the state that is gone through, and no slice is read by it here.
     for s in 0..system.first.len() {
         all.empty_sets(State(s), sets);
-        link_firsts(all, State(s), sets, links);
+        link_firsts(whole, State(s), sets, links);
     }
-    Blocks { system, old, links }
+}
+
+impl<'a> Blocks<'a> {
+    // A machine with a block for each state, and chains of representatives.
+    // Kept: lengths as clauses, since the words are lent as `&mut` beside the value.
+    pub fn represent(
+        system: System<'a>,
+        old: &'a [u32],
+        sets: &mut [u32],
+        links: &'a mut [u32],
+    ) -> Blocks<'a>
+        requires each { length old.now ≡ length system.first.now }
+        requires within { (s : ℕ) → s < length system.first.now → slice_index old.now s < length system.first.now }
+        requires room { length sets.old ≡ 2 * length system.first.now }
+        requires links { length links.old ≡ length system.next.now }
+        ensures machine { result.system ≡ system.entry }
+        ensures blocks { result.old.now ≡ old.now }
+        ensures firsts { (j : ℕ) → j < length system.entry.next.now → LeadsOn system.entry.words.now old.now (length system.entry.next.now) j (slice_index result.links.now j) }
+    {
+        represent(system, old, sets, links);
+        Blocks { system, old, links }
+    }
 }

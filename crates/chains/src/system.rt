@@ -1,5 +1,5 @@
 // Machines in words.
-ghost use Rattle.std.specs.Prelude.{◌≡◌, ◌*◌, ◌<◌, length, slice_index};
+ghost use Rattle.std.specs.Prelude.{◌≡◌, ◌+◌, ◌*◌, ◌<◌, length, slice_index};
 ghost use Rattle.chains.specs.System.{transition_at, Chained, Bounded};
 
 use crate::walk::Walk;
@@ -16,17 +16,25 @@ pub struct System<'a> {
     ghost bounded: { Bounded (length first.now) words.now next.now },
 }
 
+// Transition `j` of those that stand in three words each.
+pub(crate) fn transition_in(words: &[u32], j: usize) -> Transition
+    requires { 3 * j + 2 < length words.now }
+    ensures { result ≡ transition_at words.now j }
+{
+    Transition {
+        source: words[3 * j],
+        label: words[3 * j + 1],
+        target: words[3 * j + 2],
+    }
+}
+
 impl<'a> System<'a> {
     // Transition `j`.
     pub fn transition(self, j: usize) -> Transition
         requires { j < length self.next.now }
         ensures { result ≡ transition_at self.entry.words.now j }
     {
-        Transition {
-            source: self.words[3 * j],
-            label: self.words[3 * j + 1],
-            target: self.words[3 * j + 2],
-        }
+        transition_in(self.words, j)
     }
 
     // The transitions of a state, by their numbers.

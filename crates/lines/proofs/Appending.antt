@@ -1,12 +1,16 @@
 -- Lines appended one after the other.
-use Rattle.std.proofs.Common.{◌≡◌, ℕ, zero, suc, ◌+◌, ◌<◌, ◌≤◌, Bool, true, false, cond, T, eqb, List, [], ◌∷◌, ◌++◌, length, sym, refl, ap, ◌∙◌, subst, append_assoc, add-zero, add-suc, arith, length-append}
+use Rattle.std.proofs.Common.{◌≡◌, ℕ, zero, suc, ◌+◌, ◌<◌, ◌≤◌, Bool, true, false, cond, T, eqb, List, [], ◌∷◌, ◌++◌, length, sym, refl, ap, ◌∙◌, subst, append_assoc, append-nil, add-zero, add-suc, arith, length-append}
 use Rattle.lts.specs.Line.{Line, and_line}
 use Rattle.theory.specs.Told.{Joined, join, joined}
 use Rattle.lines.specs.Written.{LineWritten, Written}
 use Rattle.lines.specs.Joins.{Appends, BodyIs, Becomes}
 use Rattle.lines.specs.declared.joining.Body.{Body}
 use Rattle.lines.proofs.Writing.{written_more}
-use Rattle.std.proofs.lemmas.Bool.{ne_eqb}
+use Rattle.std.proofs.lemmas.Bool.{eq-eqb, ne_eqb}
+
+-- nothing is appended
+pub append_none : (lines : List ℕ) (n : ℕ) → Appends lines n [] lines
+append_none lines n before xs e w = subst (λ (ys : List Line). Written before ys lines) (sym (append-nil xs)) w
 
 pub append_one : (lines : List ℕ) (n : ℕ) (l : Line) (lines' : List ℕ) → LineWritten lines n l lines' → Appends lines n (l ∷ []) lines'
 append_one lines n l lines' h before xs e w = written_more before xs lines l n lines' w (sym e) h
@@ -14,6 +18,12 @@ append_one lines n l lines' h before xs e w = written_more before xs lines l n l
 pub append_on : (lines : List ℕ) (n : ℕ) (ls : List Line) (lines' : List ℕ) (k : ℕ) (ks : List Line) (lines'' : List ℕ) → k ≡ n + length ls → Appends lines n ls lines' → Appends lines' k ks lines'' → Appends lines n (ls ++ ks) lines''
 append_on lines n ls lines' k ks lines'' o h g before xs e w =
     subst (λ (ys : List Line). Written before ys lines'') (append_assoc xs ls ks) (g before (xs ++ ls) (omega (arith, length-append xs ls)) (h before xs e w))
+
+-- the first term
+pub join_first : (t : ℕ) (b : Body) (lines : List ℕ) (b' : Body) → b.at.0 ≡ 0 → b'.at.0 ≡ t → b'.next ≡ b.next → (n : ℕ) (j : Joined) → BodyIs b n j → Becomes n j (join n t j) lines b' lines
+join_first t b lines b' z a m n j h =
+    subst (λ c. Becomes n j (cond c (record { ands = j.ands; at = t }) (record { ands = j.ands ++ (and_line j.at t ∷ []); at = n + length j.ands })) lines b' lines) (sym (eq-eqb j.at 0 (sym h.at ∙ z)))
+    (record { is = record { at = a; next = m ∙ h.next }; wrote = λ start k. k })
 
 -- one more
 pub join_more : (t : ℕ) (b : Body) (lines : List ℕ) (b' : Body) (lines' : List ℕ) → (b.at.0 ≡ 0 → ⊥) → LineWritten lines b.next (and_line b.at.0 t) lines' → b'.at.0 ≡ b.next → b'.next ≡ b.next + 1

@@ -18,6 +18,15 @@ use Rattle.lines.specs.Terms.{older, has_term, TermsAre}
 use Rattle.lines.specs.Marked.{Demanded, Passed}
 use Rattle.lines.proofs.Known.{in_births, reach_below}
 
+-- bits of tests
+pub bit_true : (c : Bool) → ◌≡◌ {A = ℕ} (cond c 1 0) 1 → c ≡ true
+bit_true true e = refl
+bit_true false e = absurd (omega arith)
+
+pub bit_false : (c : Bool) → (◌≡◌ {A = ℕ} (cond c 1 0) 1 → ⊥) → c ≡ false
+bit_false true h = absurd (h refl)
+bit_false false h = refl
+
 pub bit_back : (c : Bool) → eqb (cond c 1 0) 1 ≡ c
 bit_back true = refl
 bit_back false = refl

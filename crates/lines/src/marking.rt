@@ -1,7 +1,7 @@
 // Marks which formulas are needed, down the list, and counts their lines.
 ghost use Rattle.std.specs.Prelude.{◌≡◌, ℕ, ◌*◌, ◌^◌, ◌<◌, Bool, length};
 ghost use Rattle.theory.specs.Told.{demand_one, lines_for};
-ghost use Rattle.lines.specs.Marked.{Demanded, Passes};
+ghost use Rattle.lines.specs.Marked.{Demanded, Marked, Passes, wanted_in};
 
 use crate::needs::Needs;
 use crate::terms::find_terms;
@@ -56,21 +56,20 @@ fn mark_one(needed: &mut [u32], negated: &mut [u32], j: usize, negate: bool)
     }
 }
 
-// Marks all that is needed to tell formula `j`, or its negation, and counts the lines that tell it.
-pub fn mark<'r, 'n>(
-    refined: Refined<'r>,
+// Marks all that is needed to tell formula `j`, or its negation. Gives how many lines tell it.
+pub fn mark(
+    refined: Refined,
     j: usize,
     negate: bool,
-    needed: &'n mut [u32],
-    negated: &'n mut [u32],
+    needed: &mut [u32],
+    negated: &mut [u32],
     mask: &mut [u32],
-) -> Needs<'r, 'n>
+) -> usize
     requires formula { j < refined.counts.formulas }
     requires needed { length needed.old ≡ refined.answers.width }
     requires negated { length negated.old ≡ refined.answers.width }
     requires mask { length mask.old ≡ refined.answers.width }
-    ensures refined { result.refined ≡ refined.entry }
-    ensures formula { (result.formula ≡ j) × (result.negate ≡ negate) }
+    ensures { Marked refined.entry (wanted_in refined.entry j negate) needed.new negated.new result }
 {
     mark_one(needed, negated, j, negate);
     let mut lines = 1;
@@ -78,12 +77,34 @@ pub fn mark<'r, 'n>(
     for i in (0..refined.counts.formulas).rev() {
         lines += pass_on(refined, i, needed, negated, mask);
     }
-    Needs {
-        refined,
-        formula: j,
-        negate,
-        needed,
-        negated,
-        lines,
+    lines
+}
+
+impl<'r, 'n> Needs<'r, 'n> {
+    // What is needed to tell formula `j`, or its negation, marked in lent words.
+    pub fn mark(
+        refined: Refined<'r>,
+        j: usize,
+        negate: bool,
+        needed: &'n mut [u32],
+        negated: &'n mut [u32],
+        mask: &mut [u32],
+    ) -> Needs<'r, 'n>
+        requires formula { j < refined.counts.formulas }
+        requires needed { length needed.old ≡ refined.answers.width }
+        requires negated { length negated.old ≡ refined.answers.width }
+        requires mask { length mask.old ≡ refined.answers.width }
+        ensures refined { result.refined ≡ refined.entry }
+        ensures formula { (result.formula ≡ j) × (result.negate ≡ negate) }
+    {
+        let lines = mark(refined, j, negate, needed, negated, mask);
+        Needs {
+            refined,
+            formula: j,
+            negate,
+            needed,
+            negated,
+            lines,
+        }
     }
 }

@@ -1,6 +1,6 @@
 -- A question that was read can be refined.
-use Rattle.std.proofs.Common.{◌≡◌, ℕ, ◌*◌, ◌&&◌, ltb, leb, List, length, sym, ap, ◌∙◌, arith, leb→le}
-use Rattle.lts.specs.Question.{Question, within}
+use Rattle.std.proofs.Common.{◌≡◌, ℕ, ◌+◌, ◌*◌, ◌&&◌, ltb, leb, List, [], ◌∷◌, length, sym, ap, ◌∙◌, arith, leb→le, length-append}
+use Rattle.lts.specs.Question.{Question, within, transition_words}
 use Rattle.lts.proofs.Encoding.{length_words}
 use Rattle.theory.proofs.Bools.{and_0, and_1}
 use Rattle.refine.specs.Askable.{Askable}
@@ -16,6 +16,10 @@ module _ (words : List ℕ) (a : Asked) (h : Reads words a) where
 
   long : length ws ≡ 3 * length q.machine.transitions
   long = sym (ap length h.borrowed) ∙ length_words q.machine.transitions
+
+  -- the question's words are four and three for each transition
+  pub all_words : length words ≡ 4 + length ws
+  all_words = omega (arith, ap length h.encoded.is, length-append (transition_words q.machine.transitions) (q.first ∷ q.second ∷ []), ap length h.borrowed)
 
   pub askable_of : Askable a.states ws
   askable_of =

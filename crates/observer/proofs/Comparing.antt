@@ -23,7 +23,7 @@ use Rattle.observer.specs.declared.comparison.Compared.{Compared}
 use Rattle.observer.specs.declared.comparison.Compared.TheVariants.{Same, Differ, OutFull, NoMachine, Few}
 use Rattle.observer.specs.Compared.{most_lines, DifferBy, StandFirst, ApartSays, ComparedSays}
 
-module _ (r : Refined) (s t : ℕ) (hs : s < length r.answers.system.first.now) (ht : t < length r.answers.system.first.now) (j : ℕ) (w : Tells r s t j) where
+module _ (r : Refined) (s t : ℕ) (hs : s < length r.answers.system.first.now) (ht : t < length r.answers.system.first.now) (j : ℕ) (w : Tells (machine_in r) r.counts.formulas s t j) where
   abbrev m : Machine
   m = machine_in r
 

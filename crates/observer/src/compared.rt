@@ -9,7 +9,7 @@ use crate::reading::read;
 use crate::room::is_few;
 use chains::State;
 use lent::has_bit;
-use lines::{mark, tell};
+use lines::{Needs, tell};
 use refine::{Refined, refine};
 
 // The words of lent memory that lines are told with: three rows of bits, and a place for each formula.
@@ -37,7 +37,7 @@ fn tell_apart(
     let (negated, rest) = rest.split_at_mut(width);
     let (mask, places) = rest.split_at_mut(width);
     let negate = !has_bit(refined.answers.row(s), formula);
-    let needs = mark(refined, formula, negate, needed, negated, mask);
+    let needs = Needs::mark(refined, formula, negate, needed, negated, mask);
     if lines.len() < 3 * needs.lines {
         return Compared::OutFull(depth, needs.lines);
     }

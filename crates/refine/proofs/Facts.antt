@@ -1,14 +1,15 @@
 -- What the loops need of the machine, of the blocks with which a round began, and of the room.
 use Rattle.std.proofs.Common.{◌≡◌, ℕ, zero, suc, ◌-◌, ◌*◌, ◌<◌, ◌≤◌, List, length, get_or, sym, refl, ap, ◌∙◌, subst, arith}
 use Rattle.lts.specs.declared.Transition.{Transition}
-use Rattle.lts.specs.Machine.{Machine, Step}
+use Rattle.lts.specs.Machine.{Machine, Step, Among}
+use Rattle.lts.specs.Decoding.{transitions_of}
 use Rattle.theory.specs.Together.{Closed}
 use Rattle.theory.specs.Births.{Birth, alike, next_birth, sweep, rounds}
 use Rattle.theory.proofs.Leaders.{leader_test, leader_le}
 use Rattle.theory.proofs.Growth.{alike_equivalence, rounds_settled, rounds_extend}
 use Rattle.theory.proofs.Bounds.{births_below_states}
 use Rattle.theory.proofs.Ending.{rounds_next, extends_same}
-use Rattle.theory.proofs.Places.{place_of}
+use Rattle.theory.proofs.Places.{among_at, place_of}
 use Rattle.chains.specs.Matching.{related}
 use Rattle.chains.specs.System.{machine_of, transition_at, Bounded}
 use Rattle.chains.proofs.Decoded.{no_transition, how_many, at_place}
@@ -20,6 +21,12 @@ use Rattle.refine.proofs.Turning.{turn_begins}
 module _ (n : ℕ) (ws ns : List ℕ) (whole : length ws ≡ 3 * length ns) where
   abbrev m : Machine
   m = machine_of n ws
+
+  -- transition j stands among those of the machine
+  pub step_at : (j : ℕ) → j < length ns → Among (transition_at ws j) (transitions_of ws)
+  step_at j h =
+      let long : j < length (transitions_of ws) = omega (arith, how_many ws (length ns) whole) in
+      subst (λ (t : Transition). Among t (transitions_of ws)) (at_place ws j no_transition (omega arith)) (among_at (transitions_of ws) j no_transition long)
 
   -- each step of the machine is a transition j
   pub place_in : (s a u : ℕ) → Step m s a u → (j : ℕ) × (j < length ns) × (transition_at ws j ≡ record { source = s; label = a; target = u })

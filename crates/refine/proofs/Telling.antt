@@ -1,5 +1,5 @@
 -- The first formula that tells two states apart, from the first bit in which their rows differ.
-use Rattle.std.proofs.Common.{◌≡◌, ℕ, zero, suc, ◌*◌, ◌/◌, ◌<◌, ◌≤◌, not, T, ◌⊎◌, List, length, replicate, sym, ap, ◌∙◌, subst, inl, inr, arith}
+use Rattle.std.proofs.Common.{◌≡◌, ℕ, zero, suc, ◌+◌, ◌*◌, ◌/◌, ◌<◌, ◌≤◌, not, T, ◌⊎◌, List, length, replicate, sym, ap, ◌∙◌, subst, inl, inr, arith}
 use lib.ListN.{length-replicate}
 use Rattle.lts.specs.Bisimulation.{Bisimilar}
 use Rattle.lts.specs.Machine.{Machine}
@@ -14,6 +14,7 @@ use Rattle.theory.proofs.Counting.{below_suc}
 use Rattle.theory.proofs.Ending.{alike_bisimilar}
 use Rattle.lent.specs.Bits.{FirstDifference}
 use Rattle.formulas.specs.Link.{birth_at, births_of, row_of, Link}
+use Rattle.formulas.proofs.Extending.{row_end}
 use Rattle.chains.specs.System.{machine_of}
 use Rattle.refine.specs.Askable.{Askable}
 use Rattle.refine.proofs.Facts.{length_births, closed_of}
@@ -55,6 +56,10 @@ closed_in n ws h = closed_by (length ws / 3) h.whole
         let ns : List ℕ = replicate g 0 in
         let whole : length ws ≡ 3 * length ns = omega (arith, length-replicate {A = ℕ} g 0) in
         closed_of n ws ns whole (bounded_of n ws ns whole h.inside)
+
+-- the rows of all states are there
+pub row_inside : (m : Machine) (bs : List Birth) (rows : List ℕ) (w : ℕ) (leads : List ℕ) (s : ℕ) → Link m bs rows w leads → s < m.states → s * w + w ≤ length rows
+row_inside m bs rows w leads s l h = omega (arith, l.long, row_end s m.states w h)
 
 -- how deep the first formula is that tells two states apart: the round in which it was born
 pub level_tells : (m : Machine) → Closed m → (bw : List ℕ) (count s t j : ℕ) → births_of bw count ≡ births m → s < m.states → t < m.states → j < count

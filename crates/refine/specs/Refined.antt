@@ -11,18 +11,18 @@ use Rattle.refine.specs.declared.refined.Refined.{Refined}
 abbrev pub machine_in : Refined → Machine
 machine_in r = machine_of (length r.answers.system.first.now) r.answers.system.words.now
 
--- formula j of the list is the first that tells s from t
-pub record Tells (r : Refined) (s t j : ℕ) : Type 0 where
-  pub within : j < r.counts.formulas
-  pub apart : T (not (alike (machine_in r) (births (machine_in r)) s t))
-  pub is : first (machine_in r) (formulas (machine_in r) (births (machine_in r))) s t ≡ j
+-- formula j of the list, which has so many, is the first that tells s from t
+pub record Tells (m : Machine) (count s t j : ℕ) : Type 0 where
+  pub within : j < count
+  pub apart : T (not (alike m (births m) s t))
+  pub is : first m (formulas m (births m)) s t ≡ j
 
 -- the two are bisimilar, or which formula is the first to tell them apart
-abbrev pub FirstTelling : Refined → ℕ → ℕ → Option ℕ → Type 0
-FirstTelling r s t None = Bisimilar (machine_in r) s t
-FirstTelling r s t (Some j) = Tells r s t j
+abbrev pub FirstTelling : Machine → ℕ → ℕ → ℕ → Option ℕ → Type 0
+FirstTelling m count s t None = Bisimilar m s t
+FirstTelling m count s t (Some j) = Tells m count s t j
 
 -- the two are bisimilar, or a formula of depth d tells the first from the second and none less deep tells them apart
-abbrev pub Ahead : Refined → ℕ → ℕ → Option ℕ → Type 0
-Ahead r s t None = Bisimilar (machine_in r) s t
-Ahead r s t (Some d) = TellsLeast (machine_in r) s t (first_formula (machine_in r) (births (machine_in r)) s t) d
+abbrev pub Ahead : Machine → ℕ → ℕ → Option ℕ → Type 0
+Ahead m s t None = Bisimilar m s t
+Ahead m s t (Some d) = TellsLeast m s t (first_formula m (births m) s t) d

@@ -1,9 +1,10 @@
 // Machines that were refined.
-ghost use Rattle.std.specs.Prelude.{ℕ, ◌*◌, ◌≤◌, length};
+ghost use Rattle.std.specs.Prelude.{◌≡◌, ℕ, ◌*◌, ◌≤◌, length};
 ghost use Rattle.chains.specs.System.{machine_of};
 ghost use Rattle.refine.specs.Askable.{Askable};
 ghost use Rattle.refine.specs.Rounds.{Done};
 
+use crate::parted::Parted;
 use formulas::Answers;
 
 // How many formulas there are, and how many rounds added them.
@@ -25,4 +26,24 @@ pub struct Refined<'a> {
     ghost done: { Done (machine_of (length answers.system.first.now) answers.system.words.now) counts.rounds answers.width births.now counts.formulas answers.rows.now leads.now },
     ghost narrow: { answers.width ≤ 128 },
     ghost room: { 4 * counts.formulas ≤ length births.now },
+}
+
+impl<'a> Refined<'a> {
+    // What is left without the chains.
+    pub fn parted(self) -> Parted<'a>
+        ensures states { result.states ≡ length self.entry.answers.system.first.now }
+        ensures words { result.words.now ≡ self.entry.answers.system.words.now }
+        ensures rows { (result.width ≡ self.entry.answers.width) × (result.rows.now ≡ self.entry.answers.rows.now) }
+        ensures rest { (result.leads.now ≡ self.entry.leads.now) × (result.births.now ≡ self.entry.births.now) × (result.counts ≡ self.entry.counts) }
+    {
+        Parted {
+            states: self.answers.system.first.len(),
+            words: self.answers.system.words,
+            width: self.answers.width,
+            rows: self.answers.rows,
+            leads: self.leads,
+            births: self.births,
+            counts: self.counts,
+        }
+    }
 }

@@ -10,7 +10,7 @@ ghost use Rattle.refine.specs.Rounds.{Fixed, Sofar, Turning, Turned, After, Done
 
 use crate::refined::Counts;
 use crate::round::Round;
-use chains::{Blocks, State, System, represent};
+use chains::{Blocks, State, System};
 use formulas::{Birth, add_formula};
 use lts::Transition;
 
@@ -127,7 +127,7 @@ fn begin_round<'a>(
 {
     old.copy_from_slice(leads);
     let (sets, _) = scratch.split_at_mut(2 * system.first.len());
-    represent(system, old, sets, links)
+    Blocks::represent(system, old, sets, links)
 }
 
 // Rounds until one adds nothing.

@@ -14,6 +14,9 @@ more ws old skips skips' g s before here kept j h l = elim (cases_eq (source_at 
   | inr n ↦ subst (LeadsOn ws old g j) (sym (kept j n)) (before j h (omega (arith, n, l)))
 ]
 
+pub invariant_of-whole-clause-represented : goal.invariant_of-whole-clause-represented
+invariant_of-whole-clause-represented c = represented_all _ _ _ _ c.args.system.chained
+
 pub loop-s-init : goal.loop-s-init
 loop-s-init c = (
   subst (Represented c.args.system.words.now c.args.old.now c.args.system.first.now) (sym c.copy_from_slice.ensures.after) (represented_all _ _ _ _ c.args.system.chained),

@@ -18,10 +18,8 @@ loop-i-preserved c =
     goes_on c.args.refined c.args.j c.args.negate c.loop-i.i c.loop-i-test.true (omega (arith, c.loop-i.auto.i)) c.loop-i.needed c.loop-i.negated c.pass_on-lines.new.needed c.pass_on-lines.new.negated
     c.loop-i.lines c.pass_on-lines.result c.loop-i.invariant c.pass_on-lines.ensures
 
-pub invariant_of-result : goal.invariant_of-result
-invariant_of-result c =
+pub returns : goal.returns
+returns c =
     let none : c.loop-i.i ≡ 0 = omega (arith, c.loop-i-test.false) in
-    record {
-      marked = ends c.args.refined c.args.j c.args.negate c.loop-i.needed c.loop-i.negated c.loop-i.lines
-          (subst (λ i. Marking c.args.refined (wanted_in c.args.refined c.args.j c.args.negate) i c.loop-i.needed c.loop-i.negated c.loop-i.lines) none c.loop-i.invariant);
-    }
+    ends c.args.refined c.args.j c.args.negate c.loop-i.needed c.loop-i.negated c.loop-i.lines
+    (subst (λ i. Marking c.args.refined (wanted_in c.args.refined c.args.j c.args.negate) i c.loop-i.needed c.loop-i.negated c.loop-i.lines) none c.loop-i.invariant)
