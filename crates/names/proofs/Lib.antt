@@ -1,3 +1,3 @@
 pub mod Placed
-pub mod Turns
 pub mod Steps
+pub mod Turns

@@ -55,6 +55,14 @@ place_own xs i d h = by (place xs (get_or xs i [])) refl
     by None e = absurd (place_none xs (get_or xs i []) e i h refl)
     by (Some j) e = let at = place_at xs (get_or xs i []) j e in ap Some (d j i at.0 h at.1)
 
+-- a name that stands somewhere has a place
+pub place_some : (xs : List Name) (i : ℕ) → i < length xs → (k : ℕ) × (place xs (get_or xs i []) ≡ Some k)
+place_some xs i h = by (place xs (get_or xs i [])) refl
+  where
+    by : (o : Option ℕ) → place xs (get_or xs i []) ≡ o → (k : ℕ) × (place xs (get_or xs i []) ≡ Some k)
+    by None e = absurd (place_none xs (get_or xs i []) e i h refl)
+    by (Some j) e = (j, e)
+
 abbrev pub or_else : Option ℕ → Option ℕ → Option ℕ
 or_else None o = o
 or_else (Some i) o = Some i

@@ -1,68 +1,78 @@
--- What the set of names finds, and what a new name makes of it.
-use Rattle.std.proofs.Common.{◌≡◌, ℕ, zero, suc, ◌+◌, ◌<◌, Bool, true, false, cond, not, ◌||◌, ltb, List, [], ◌∷◌, ◌++◌, map, length, get_or, position, Some, None, string_bytes, Option, String, sym, refl, ap, ◌∙◌, arith}
-use Rattle.std.specs.Cmp.Lexicographic.{bytes_decides}
-use Rattle.std.specs.List.{AllByRecursion, IsDistinct, list_any, position_or_len}
-use Rattle.std.specs.Option.{option_map}
+-- What a step of Names does, as its code sees it.
+use Rattle.std.proofs.Common.{◌≡◌, ℕ, ◌<◌, Bool, true, false, cond, ltb, List, [], ◌∷◌, ◌++◌, map, length, get_or, Some, None, vec_items, string_bytes, Option, Vec, String, sym, refl, ap, ◌∙◌, subst, arith}
+use Rattle.std.specs.BTreeMap.{BTreeMap}
+use Rattle.std.specs.BTreeMap.{IsEmpty, Updates, get_by_text, is_at}
+use Rattle.std.specs.Map.{lookup}
 use Rattle.std.specs.Str.{bytes_eq as same_text}
-use Rattle.std.specs.String.{string_eq}
-use Rattle.std.proofs.lemmas.Bool.{both_ways, false_from_ne_true, cond-true, cond-false}
-use Rattle.std.proofs.lemmas.Bool.Decides.{nat_tests}
-use Rattle.std.proofs.lemmas.Map.Keys.{IsDistinct-head, IsDistinct-tail}
-use Rattle.std.proofs.lemmas.List.{length-map, map_push}
-use Rattle.indexmap.specs.IndexSet.{IndexSet, IsUnique, insert_index, insert_key, keys}
-use Rattle.names.specs.Places.{Name, place, noted}
-use Rattle.names.specs.Table.{texts, coded, Apart}
-use Rattle.names.proofs.Placed.{noted_new, place_new}
+use Rattle.std.specs.Cmp.Lexicographic.{bytes_decides}
+use Rattle.std.specs.List.{slice_get}
+use Rattle.std.proofs.lemmas.Map.Text.{btree_map_updates_text, text_cmp}
+use Rattle.std.proofs.lemmas.List.{get_or-map, length-map}
+use Rattle.std.proofs.lemmas.Option.{slice_get-get_or, slice_get_past}
+use Rattle.std.proofs.lemmas.Bool.{ltb-true, ltb-false, both_ways, false_from_ne_true}
+use Rattle.names.specs.Places.{Name, place, Distinct}
+use Rattle.names.specs.Table.{texts, coded, Apart, Agrees}
+use Rattle.names.proofs.Placed.{or_else, place_own, place_push, place_new, distinct_push}
+use Rattle.std.specs.String.{string_cmp}
 
-found_next : (b : Bool) (p l : ℕ) → cond (ltb (cond (not b) (1 + p) 0) (suc l)) (Some (cond (not b) (1 + p) 0)) None ≡ cond b (Some 0) (option_map suc (cond (ltb p l) (Some p) None))
-found_next b p l = grind (arith, nat_tests)
+coded_same : (o p : Option ℕ) → coded o ≡ coded p → o ≡ p
+coded_same None None e = refl
+coded_same None (Some j) e = absurd (omega arith)
+coded_same (Some i) None e = absurd (omega arith)
+coded_same (Some i) (Some j) e = let same : i ≡ j = omega arith in ap Some same
 
-none_next : (b : Bool) (o : Option ℕ) → cond b (Some 0) (option_map suc o) ≡ None → (b ≡ false) × (o ≡ None)
-none_next true o h = cc
-none_next false None h = (refl, refl)
-none_next false (Some i) h = cc
+module _ {Y V : Type 0} (list : Vec (String Y) V) where
+  pub distinct_from : Apart list → Distinct (texts list)
+  distinct_from h i j hi hj e = omega (arith, h i hi, h j hj, ap (λ n. coded (place (texts list) n)) e)
 
-module _ {Y : Type 0} where
-  other_than : (k : String Y) (ks : List (String Y)) (i : ℕ) → AllByRecursion (λ y. string_eq k y ≡ false) ks → i < length (map string_bytes ks) → same_text (get_or (map string_bytes ks) i []) (string_bytes k) ≡ false
-  other_than k [] i h l = absurd (omega arith)
-  other_than k (y ∷ ks) zero h l = false_from_ne_true _ (λ t. both_ways (string_eq k y) h.0 ((bytes_decides (string_bytes k) (string_bytes y)).1 (sym ((bytes_decides (string_bytes y) (string_bytes k)).0 t))))
-  other_than k (y ∷ ks) (suc i) h l = other_than k ks i h.1 (omega arith)
+module _ {Y V : Type 0} (list : Vec (String Y) V) (numbers : BTreeMap (String Y) ℕ) where
+  -- what a table owes
+  pub record Kept : Type 0 where
+    pub apart : Apart list
+    pub agrees : Agrees list numbers
 
-  -- where no two keys are equal, each stands first at its own place
-  own_place : (ks : List (String Y)) (i : ℕ) → IsDistinct string_eq ks → i < length (map string_bytes ks) → place (map string_bytes ks) (get_or (map string_bytes ks) i []) ≡ Some i
+  pub agrees_from : Agrees list numbers → (n : Name) → get_by_text numbers n ≡ place (texts list) n
+  agrees_from h n = coded_same (get_by_text numbers n) (place (texts list) n) (h n)
+
+  kept : Distinct (texts list) → ((n : Name) → get_by_text numbers n ≡ place (texts list) n) → Kept
+  kept d a = record { apart = λ i h. ap coded (place_own (texts list) i d h); agrees = λ n. ap coded (a n) }
+
+  pub none_yet : vec_items list ≡ [] → IsEmpty numbers → Kept
   unfolding place
-  own_place [] i d l = absurd (omega arith)
-  own_place (k ∷ ks) zero d l = cond-true (same_text (string_bytes k) (string_bytes k)) (Some 0) _ ((bytes_decides (string_bytes k) (string_bytes k)).1 refl)
-  own_place (k ∷ ks) (suc i) d l =
-      cond-false (same_text (get_or (map string_bytes ks) i []) (string_bytes k)) (Some 0) _ (other_than k ks i (IsDistinct-head string_eq k ks d) (omega arith))
-      ∙ ap (option_map suc) (own_place ks i (IsDistinct-tail string_eq k ks d) (omega arith))
+  none_yet ls es =
+      kept (λ i j h. absurd (omega (arith, subst (λ l. i < length (map string_bytes l)) ls h)))
+      (λ n. ap (λ l. lookup (is_at (text_cmp n)) l) es ∙ ap (λ l. place (map string_bytes l) n) (sym ls))
 
-  pub apart_from : {S : Type 0} (s : IndexSet (String Y) S) → IsUnique string_eq s → Apart s
-  apart_from s d i l = ap coded (own_place (keys s) i d l)
+module _ {Z : Type 0} where
+  pub named_at : (xs ys : List (String Z)) (i : ℕ) (s : String Z) → ys ≡ xs → true ≡ ltb i (length ys) → s ≡ get_or ys i s → Some (string_bytes s) ≡ slice_get (map string_bytes xs) i
+  named_at xs ys i s e t h =
+      let l : i < length xs = subst (λ zs. i < length zs) e (ltb-true i (length ys) (sym t)) in
+      let m : i < length (map string_bytes xs) = subst (λ k. i < k) (sym (length-map xs string_bytes)) l in
+      ap (λ u. Some (string_bytes u)) (h ∙ ap (λ zs. get_or zs i s) e) ∙ ap Some (sym (get_or-map string_bytes xs i s [] l)) ∙ sym (slice_get-get_or (map string_bytes xs) i [] m)
 
-module _ {Y : Type 0} (n : Name) where
-  -- whether a key is the name
-  abbrev is_name : String Y → Bool
-  is_name k = same_text n (string_bytes k)
+  pub named_past : (xs ys : List (String Z)) (i : ℕ) → ys ≡ xs → false ≡ ltb i (length ys) → None ≡ slice_get (map string_bytes xs) i
+  named_past xs ys i e t =
+      let l = ltb-false i (length ys) (sym t) in
+      let m = ap length e in
+      sym (slice_get_past (map string_bytes xs) i (omega (arith, length-map xs string_bytes)))
 
-  pub place_found : (ks : List (String Y)) → position is_name ks ≡ place (map string_bytes ks) n
-  unfolding place
-  place_found [] = refl
-  place_found (k ∷ ks) = found_next (is_name k) (position_or_len is_name ks) (length ks) ∙ ap (λ o. cond (is_name k) (Some 0) (option_map suc o)) (place_found ks)
+agree_at : (xs : List Name) (n q : Name) (b : Bool) → same_text n q ≡ b → place xs n ≡ None → cond b (Some (length xs)) (place xs q) ≡ place (xs ++ (n ∷ [])) q
+agree_at xs n q true t e = subst (λ m. Some (length xs) ≡ place (xs ++ (n ∷ [])) m) ((bytes_decides n q).0 t) (sym (place_new xs n e))
+agree_at xs n q false t e = by (place xs q) ∙ sym (place_push xs n q ∙ ap (λ c. or_else (place xs q) (cond c (Some (length xs)) None)) other)
+  where
+    other : same_text q n ≡ false
+    other = false_from_ne_true (same_text q n) (λ s. both_ways (same_text n q) t ((bytes_decides n q).1 (sym ((bytes_decides q n).0 s))))
 
-  -- where the name is new
-  pub absent : (ks : List (String Y)) → place (map string_bytes ks) n ≡ None → (list_any is_name ks ≡ false) × (position_or_len is_name ks ≡ length ks)
-  unfolding place
-  absent [] h = (refl, refl)
-  absent (k ∷ ks) h =
-      let new = none_next (is_name k) (place (map string_bytes ks) n) h in
-      let rest = absent ks new.1 in
-      (ap (λ b. b || list_any is_name ks) new.0 ∙ rest.0, ap (λ b. cond (not b) (1 + position_or_len is_name ks) 0) new.0 ∙ (let e : 1 + position_or_len is_name ks ≡ suc (length ks) = omega (arith, rest.1) in e))
+    by : (o : Option ℕ) → o ≡ or_else o None
+    by None = refl
+    by (Some i) = refl
 
 -- a new name goes at the end
-pub grown : {Y S : Type 0} (s t : IndexSet (String Y) S) (key : String Y) (n : Name) (i : ℕ) → string_bytes key ≡ n → place (texts s) n ≡ None → keys t ≡ insert_key string_eq (keys s) key → i ≡ insert_index string_eq s key → (texts t ≡ noted (texts s) n) × (place (texts t) n ≡ Some i)
-grown s t key n i is new put at =
-    let gone = absent (string_bytes key) (keys s) (ap (place (texts s)) is ∙ new) in
-    let longer : texts t ≡ texts s ++ (n ∷ []) =
-    ap (map string_bytes) (put ∙ ap (λ b. cond b (keys s) (keys s ++ (key ∷ []))) gone.0) ∙ map_push string_bytes (keys s) key ∙ ap (λ m. texts s ++ (m ∷ [])) is in
-    (longer ∙ sym (noted_new (texts s) n new), ap (λ l. place l n) longer ∙ place_new (texts s) n new ∙ ap Some (length-map (keys s) string_bytes ∙ sym (at ∙ gone.1)))
+pub grown : {Y V : Type 0} (list more : Vec (String Y) V) (numbers new : BTreeMap (String Y) ℕ) (key : String Y) → Apart list → Agrees list numbers → place (texts list) (string_bytes key) ≡ None → texts more ≡ texts list ++ (string_bytes key ∷ []) → Updates string_cmp numbers new key (Some (length (texts list))) → Kept more new
+grown list more numbers new key apart old e ls sets =
+    let n = string_bytes key in
+    kept more new (subst Distinct (sym ls) (distinct_push (texts list) n (distinct_from list apart) e))
+    (λ q.
+    btree_map_updates_text n numbers new (Some (length (texts list))) sets q
+    ∙ ap (λ o. cond (same_text n q) (Some (length (texts list))) o) (agrees_from list numbers old q)
+    ∙ agree_at (texts list) n q (same_text n q) refl e ∙ ap (λ l. place l q) (sym ls))

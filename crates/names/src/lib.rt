@@ -7,8 +7,8 @@ ghost use Rattle.std.specs.List.{slice_get};
 ghost use Rattle.names.specs.Numbered.{names, Noted};
 ghost use Rattle.names.specs.Places.{place, Distinct};
 
-use indexmap::IndexSet;
 use std::alloc::{AllocError, Global};
+use std::collections::BTreeMap;
 
 mod table;
 
@@ -20,7 +20,8 @@ impl Names {
         ensures { names result ≡ [] }
     {
         Names {
-            list: IndexSet::new(heap),
+            list: Vec::new(heap),
+            numbers: BTreeMap::new(heap),
         }
     }
 
@@ -43,14 +44,14 @@ impl Names {
     pub fn name(&self, i: usize) -> Option<&str>
         ensures { option_map (λ x. x.now) result ≡ slice_get (names self.now) i }
     {
-        self.list.get_index(i).map(|name| name.as_str())
+        self.list.get(i).map(|name| name.as_str())
     }
 
     // The number of a name.
     pub fn number_of(&self, name: &str) -> Option<usize>
         ensures { result ≡ place (names self.now) name.now }
     {
-        self.list.get_index_of(name)
+        self.numbers.get(name).copied()
     }
 
     // The number of a name, which is noted first where it is new. Where memory fails, the names are as they were.
@@ -60,7 +61,12 @@ impl Names {
         if let Some(i) = self.number_of(name) {
             return Ok(i);
         }
-        let (number, _) = self.list.insert_full(String::from_str(heap, name)?)?;
-        Ok(number)
+        let i = self.len();
+        let key = String::from_str(heap, name)?;
+        let copy = String::from_str(heap, name)?;
+        self.list.reserve(1)?;
+        self.numbers.insert(key, i)?;
+        self.list.push_reserved(copy);
+        Ok(i)
     }
 }
