@@ -47,7 +47,7 @@ run_more at k l ls = rw add-one (run_next at k l ls)
 
 module _ {text : List ℕ} {n : ℕ} {k : Sketch} (old : Sofar text n k) where
   -- it is the first of the lines that are left
-  next_line : (i : ℕ) (l : List ℕ) → Turn text n i l → (i ≡ n) × (drop n (lines_of text) ≡ l ∷ drop (n + 1) (lines_of text))
+  pub next_line : (i : ℕ) (l : List ℕ) → Turn text n i l → (i ≡ n) × (drop n (lines_of text) ≡ l ∷ drop (n + 1) (lines_of text))
   next_line i l t =
       let ls = slice_split is_newline text in
       let h : n < length ls = omega (arith, t.0, length-enumerate_from 0 ls) in
@@ -71,8 +71,8 @@ module _ {text : List ℕ} {n : ℕ} {k : Sketch} (old : Sofar text n k) where
   step_stopped i l k' Memory t a = tt
 
   -- there is no line more
-  pub ended : (m : ℕ) → n ≡ length (enumerate_from 0 (slice_split is_newline text)) → m ≡ length (lines_of text) → finish m (drafted k) ≡ drawn text
-  ended m e f =
+  pub ended : n ≡ length (enumerate_from 0 (slice_split is_newline text)) → finish n (drafted k) ≡ drawn text
+  ended e =
       let ls = slice_split is_newline text in
-      let all : m ≡ n = omega (arith, ap length (lines_split text), length-enumerate_from 0 ls) in
-      ap (λ j. finish j (drafted k)) all ∙ sym (run_end n (drafted k)) ∙ ap (run n (going (drafted k))) (sym (drop_all n (lines_of text) (omega arith))) ∙ old.same
+      let all : length (lines_of text) ≡ n = omega (arith, ap length (lines_split text), length-enumerate_from 0 ls) in
+      sym (run_end n (drafted k)) ∙ ap (run n (going (drafted k))) (sym (drop_all n (lines_of text) (omega arith))) ∙ old.same

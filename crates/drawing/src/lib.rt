@@ -10,7 +10,6 @@ ghost use Rattle.drawing.specs.Facts.{Reliable};
 ghost use Rattle.drawing.specs.Written.{text_of, RoundTrip};
 ghost use Rattle.drawing.specs.declared.Trouble.TheVariants.{Memory};
 
-use decoded::count_lines;
 use names::Names;
 use script::Expected;
 use sketch::Sketch;
@@ -123,10 +122,13 @@ pub fn parse<'a>(heap: Global, text: &'a str) -> Result<Drawing, Trouble<'a>>
     ensures facts { Reliable result text.now }
 {
     let mut sketch = Sketch::new(heap);
+    // Kept: the number of the last line, since it costs a pass over the text to count them again.
+    let mut last = 0;
     for (i, line) in text.split('\n').enumerate() {
-        sketch.add(heap, i + 1, line)?;
+        last = i + 1;
+        sketch.add(heap, last, line)?;
     }
-    sketch.finish(heap, count_lines(text.as_bytes()))
+    sketch.finish(heap, last)
 }
 
 // The text of a drawing, which draws it again.

@@ -1,7 +1,7 @@
 pub mod Choosing
+pub mod Cuts
 pub mod Numbers
 pub mod Roundtrip
 pub mod Sizes
-pub mod Splits
 pub mod Texts
 pub mod Wordwise

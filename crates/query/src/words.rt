@@ -1,6 +1,6 @@
 // The words of a question as text: numbers in decimal, with blanks between.
-ghost use Rattle.std.specs.Prelude.{◌≡◌, IfOk, Some};
-ghost use Rattle.query.specs.Reading.{number_of, reading, ReadsBack};
+ghost use Rattle.std.specs.Prelude.{◌≡◌, ℕ, ◌<◌, ◌≤◌, length, true, false, slice_index, IfOk, Some};
+ghost use Rattle.query.specs.Reading.{blank, number_of, reading, skip, ReadsBack};
 ghost use Rattle.query.specs.Code.{meaning, refusal_words};
 
 use std::alloc::AllocError;
@@ -27,6 +27,45 @@ impl fmt::Display for NoWords<'_> {
     }
 }
 
+// Stands between words.
+fn is_blank(b: u8) -> bool
+    ensures { result ≡ blank b }
+{
+    matches!(b, b' ' | b'\t')
+}
+
+// How many blanks stand in front.
+fn blank_len(bytes: &[u8]) -> usize
+    ensures within { result ≤ length bytes.now }
+    ensures blanks { (k : ℕ) → k < result → blank (slice_index bytes.now k) ≡ true }
+    ensures end { result < length bytes.now → blank (slice_index bytes.now result) ≡ false }
+{
+    bytes
+        .iter()
+        .position(|b| !is_blank(*b))
+        .unwrap_or(bytes.len())
+}
+
+// What follows the blanks in front.
+fn skip_blanks(text: &str) -> &str
+    ensures { result.now ≡ skip text.now }
+{
+    let (_, rest) = text.split_at(blank_len(text.as_bytes()));
+    rest
+}
+
+// How many bytes stand before the first blank.
+fn word_len(bytes: &[u8]) -> usize
+    ensures within { result ≤ length bytes.now }
+    ensures word { (k : ℕ) → k < result → blank (slice_index bytes.now k) ≡ false }
+    ensures end { result < length bytes.now → blank (slice_index bytes.now result) ≡ true }
+{
+    bytes
+        .iter()
+        .position(|b| is_blank(*b))
+        .unwrap_or(bytes.len())
+}
+
 // The number below 2^32 that a word is in decimal, if it is one.
 pub fn number(word: &str) -> Option<u32>
     ensures { result ≡ number_of word.now }
@@ -39,7 +78,7 @@ pub fn number(word: &str) -> Option<u32>
 
 // Puts the words of a line in place of what `words` holds, or says which word is no number.
 // Kept: the outer error is memory's, which callers pass up; the inner one is what they tell of the line.
-#[tactic(auto, using(crate::proofs::Roundtrip::reads_back))]
+// Kept: a loop over what is left. A `for` over the line split at each blank takes more than twice the time on a line of many blanks.
 pub fn read_words<'a>(
     line: &'a str,
     words: &mut Vec<u32>,
@@ -48,12 +87,15 @@ pub fn read_words<'a>(
     ensures again { ReadsBack }
 {
     words.clear();
-    for word in line.split([' ', '\t']).filter(|word| !word.is_empty()) {
+    let mut rest = skip_blanks(line);
+    while !rest.is_empty() {
+        let (word, more) = rest.split_at(word_len(rest.as_bytes()));
         let Some(n) = number(word) else {
             let place = words.len() + 1;
             return Ok(Err(NoWords { found: word, place }));
         };
         words.push(n)?;
+        rest = skip_blanks(more);
     }
     Ok(Ok(()))
 }

@@ -1,43 +1,39 @@
 -- What is left where white space is cut off the front.
-use Rattle.std.proofs.Common.{◌≡◌, ℕ, ◌<◌, Bool, true, List, [], ◌∷◌, ◌++◌, drop, Some, None, Option, sym, refl, ap, ◌∙◌, ⊎_elim, arith}
-use Rattle.std.specs.Char.{char_set_contains}
-use Rattle.std.specs.Str.Pattern.{FindsPrefixBy, CutsPrefixes, IsFullyTrimmed, IsTrimStartMatches}
-use Rattle.std.proofs.lemmas.Bool.{cases_Bool, cond-true, cond-false}
+use Rattle.std.proofs.Common.{◌≡◌, ℕ, zero, suc, ◌+◌, ◌<◌, ◌≤◌, Bool, true, false, List, [], ◌∷◌, length, get_or, drop, IsUtf8, sym, refl, ap, ◌∙◌, subst, arith, inl, inr}
+use Rattle.std.specs.Str.{IsCharBoundary}
+use Rattle.std.proofs.lemmas.Bool.{cases_lt, cond-true, cond-false}
 use Rattle.std.proofs.lemmas.Bool.Decides.{nat_tests}
-use Rattle.std.proofs.lemmas.Str.{encode_ascii, len_utf8_bounds}
-use Rattle.std.proofs.lemmas.Str.Pattern.{drop_at_char}
+use Rattle.std.proofs.lemmas.List.{drop_more, drop_all}
+use Rattle.std.proofs.lemmas.Str.{IsCharBoundary-start, IsCharBoundary-after_ascii}
 use Rattle.script.specs.Grammar.{gap, skip}
 
-gap_low : (c : ℕ) → gap c ≡ true → c < 128
-gap_low c h = grind (arith, nat_tests)
+-- n bytes of white space stand in front
+abbrev pub Gaps : List ℕ → ℕ → Type 0
+Gaps bs n = (k : ℕ) → k < n → gap (get_or bs k 0) ≡ true
 
--- what the code's list of characters may answer of the front of a text
-abbrev Answers : List ℕ → Option ℕ → Type 0
-Answers m o = (k : ℕ → Bool) → ((c : ℕ) → char_set_contains (32 ∷ 9 ∷ 13 ∷ []) c ≡ k c) → FindsPrefixBy k m o
+-- white space is ASCII, so a text may be cut behind it
+pub cut_behind : (bs : List ℕ) (n : ℕ) → IsUtf8 bs → n ≤ length bs → Gaps bs n → IsCharBoundary bs n
+cut_behind bs zero u h g = IsCharBoundary-start bs u
+cut_behind bs (suc n) u h g =
+    let here : gap (get_or bs n 0) ≡ true = g n (omega arith) in
+    let low : get_or bs n 0 < 128 = grind (arith, nat_tests) in
+    subst (IsCharBoundary bs) (omega arith) (IsCharBoundary-after_ascii bs n u (omega arith) low)
 
-gap_chars : (c : ℕ) → char_set_contains (32 ∷ 9 ∷ 13 ∷ []) c ≡ gap c
-gap_chars c = grind (arith, nat_tests)
+-- white space in front is skipped
+skip_front : (bs : List ℕ) (n : ℕ) → n ≤ length bs → Gaps bs n → skip (drop n bs) ≡ skip bs
+skip_front bs zero h g = refl
+skip_front bs (suc n) h g =
+    let here : gap (get_or bs n 0) ≡ true = g n (omega arith) in
+    let next : n + 1 ≡ suc n = omega arith in
+    let one : skip (drop n bs) ≡ skip (drop (suc n) bs) = ap skip (drop_more bs n 0 (omega arith)) ∙ cond-true (gap (get_or bs n 0)) _ _ here ∙ ap (λ m. skip (drop m bs)) next in
+    sym one ∙ skip_front bs n (omega arith) (λ k l. g k (omega arith))
 
-skip_cut : (m : List ℕ) (n : ℕ) → FindsPrefixBy gap m (Some n) → skip (drop n m) ≡ skip m
-skip_cut m n (c, is, at) =
-    let e : m ≡ c ∷ drop n m = drop_at_char c m 0 n at (gap_low c is) in
-    sym (ap skip e ∙ cond-true (gap c) (skip (drop n m)) (c ∷ drop n m) is)
+-- where none follows, nothing is skipped
+skip_end : (bs : List ℕ) (n : ℕ) → n ≤ length bs → (n < length bs → gap (get_or bs n 0) ≡ false) → skip (drop n bs) ≡ drop n bs
+skip_end bs n h e = elim (cases_lt n (length bs)) [
+  | inl l ↦ ap skip (drop_more bs n 0 l) ∙ cond-false (gap (get_or bs n 0)) _ _ (e l) ∙ sym (drop_more bs n 0 l)
+  | inr l ↦ ap skip (drop_all n bs l) ∙ sym (drop_all n bs l)
+]
 
-skip_stop : (r : List ℕ) → FindsPrefixBy gap r None → skip r ≡ r
-skip_stop [] h = refl
-skip_stop (c ∷ bs) h =
-    cond-false (gap c) (skip bs) (c ∷ bs)
-    (⊎_elim (λ t. let low = gap_low c t in h c bs (grind (arith, nat_tests)) (ap (λ l. l ++ bs) (sym (encode_ascii c low)))) (λ f. f) (cases_Bool (gap c)))
-
-skip_cuts : (s ns r : List ℕ) → CutsPrefixes Answers s ns r → skip r ≡ skip s
-skip_cuts s [] r e = ap skip e
-skip_cuts s (n ∷ ns) r (m, more, one, e) = ap skip e ∙ skip_cut m n (one gap gap_chars) ∙ skip_cuts s ns m more
-
-skip_done : (r : List ℕ) → IsFullyTrimmed Answers r → skip r ≡ r
-skip_done r (None, h, t) = skip_stop r (h gap gap_chars)
-skip_done r (Some n, h, t) =
-    let at = h gap gap_chars in
-    absurd (omega (arith, at.2.ends, (len_utf8_bounds at.0).0))
-
-pub trimmed : (s r : List ℕ) → IsTrimStartMatches Answers s r → r ≡ skip s
-trimmed s r ((ns, cuts), done) = sym (skip_done r done) ∙ skip_cuts s ns r cuts
+pub trimmed : (bs : List ℕ) (n : ℕ) → n ≤ length bs → Gaps bs n → (n < length bs → gap (get_or bs n 0) ≡ false) → drop n bs ≡ skip bs
+trimmed bs n h g e = sym (skip_end bs n h e) ∙ skip_front bs n h g

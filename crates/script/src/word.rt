@@ -1,6 +1,6 @@
 // Words of a line: white space, names without quotes and names in quotes.
-ghost use Rattle.std.specs.Prelude.{◌≡◌};
-ghost use Rattle.script.specs.Grammar.{bare, named, plain, quoted, skip, unquoted};
+ghost use Rattle.std.specs.Prelude.{◌≡◌, ℕ, ◌<◌, ◌≤◌, length, true, false, slice_index};
+ghost use Rattle.script.specs.Grammar.{bare, gap, named, plain, quoted, skip, unquoted};
 ghost use Rattle.script.specs.Words.{worded};
 
 use crate::{Expected, Fault};
@@ -33,11 +33,32 @@ pub fn bare_len(bytes: &[u8]) -> usize
     bytes.len()
 }
 
+// White space within a line.
+fn is_gap(b: u8) -> bool
+    ensures { result ≡ gap b }
+{
+    matches!(b, b' ' | b'\t' | b'\r')
+}
+
+// How many bytes of white space stand in front.
+// Kept: bytes. By characters, as the library trims, long white space takes twice the time.
+fn gap_len(bytes: &[u8]) -> usize
+    ensures within { result ≤ length bytes.now }
+    ensures gaps { (k : ℕ) → k < result → gap (slice_index bytes.now k) ≡ true }
+    ensures end { result < length bytes.now → gap (slice_index bytes.now result) ≡ false }
+{
+    bytes
+        .iter()
+        .position(|b| !is_gap(*b))
+        .unwrap_or(bytes.len())
+}
+
 // What follows the white space in front.
 pub fn skip_gap(text: &str) -> &str
     ensures { result.now ≡ skip text.now }
 {
-    text.trim_start_matches([' ', '\t', '\r'])
+    let (_, rest) = text.split_at(gap_len(text.as_bytes()));
+    rest
 }
 
 // The name in quotes that ends at the first quote of `inner`. Its opening quote stands at `at`.

@@ -1,33 +1,59 @@
-use Rattle.std.proofs.Common.{sym, ◌∙◌, arith, rules, of_calls, tests}
-use Rattle.std.proofs.lemmas.Iterator.Consumers.{YieldsList-turn, YieldsList-end}
-use Rattle.std.proofs.lemmas.List.{length_push}
-use Rattle.query.proofs.Splits.{word_parts}
-use Rattle.query.proofs.Wordwise.{start, stop, more, done}
+use Rattle.std.proofs.Common.{length, take, drop, sym, ap, ◌∙◌, subst, arith, rules}
+use Rattle.std.specs.Str.{IsCharBoundary}
+use Rattle.std.proofs.lemmas.Bool.{eqb-true, eqb-false}
+use Rattle.query.specs.Reading.{run}
+use Rattle.query.proofs.Cuts.{run_cut, run_to, next_shorter}
+use Rattle.query.proofs.Roundtrip.{reads_back}
+use Rattle.query.proofs.Wordwise.{start, more, stop, done}
 use Rattle.query.proofs.words.read_words.Goals as goal
 
-pub loop-word-init : goal.loop-word-init
-loop-word-init c = (search of_calls, search of_calls, start _ _ c.clear.ensures.items)
+pub loop-rest-init : goal.loop-rest-init
+loop-rest-init c = (search rules, start _ _ _ c.skip_blanks-rest.ensures c.clear.ensures.items)
 
-pub returns-in_default-clause-exact : goal.returns-in_default-clause-exact
-returns-in_default-clause-exact c =
-    let at =
-    YieldsList-turn
-    (word_parts _ c.into_iter-word-iterator.ensures.into_iter_gives c.filter-word-items.ensures.source c.filter-word-items.ensures.closure c.split.ensures.text c.split.ensures.has_more c.split.ensures.pattern (λ x b q k. search (rules, tests)))
-    c.loop-word.yielded _ c.loop-word.yielded_by _ _ c.in-Some.word c.in-Some.is c.next.ensures.steps in
-    stop _ _ _ _ c.loop-word.invariant.2 at _ (sym c.in_default.is ∙ c.number.ensures) (omega (arith, c.len-place.ensures, c.loop-word.words.ok.0))
+pub split_at-requires : goal.split_at-requires
+split_at-requires c = subst (IsCharBoundary c.loop-rest.rest.now) (sym (run_to _ c.word_len.result c.word_len.ensures.within c.word_len.ensures.word c.word_len.ensures.end ∙ ap run c.as_bytes.ensures.value)) (run_cut c.loop-rest.rest.now)
 
-pub loop-word-preserved : goal.loop-word-preserved
-loop-word-preserved c =
-    let at =
-    YieldsList-turn
-    (word_parts _ c.into_iter-word-iterator.ensures.into_iter_gives c.filter-word-items.ensures.source c.filter-word-items.ensures.closure c.split.ensures.text c.split.ensures.has_more c.split.ensures.pattern (λ x b q k. search (rules, tests)))
-    c.loop-word.yielded _ c.loop-word.yielded_by _ _ c.in-Some.word c.in-Some.is c.next.ensures.steps in
-    (search of_calls, search of_calls, more _ _ _ _ c.loop-word.invariant.2 at _ c.in-Some-number.n _ (sym c.in-Some-number.is ∙ c.number.ensures) (length_push c.loop-word.yielded c.in-Some.word) c.in_ok-push.ensures.items)
+pub returns-in_default : goal.returns-in_default
+returns-in_default c =
+    let rest = c.loop-rest.rest.now in
+    let cut = run_to _ c.word_len.result c.word_len.ensures.within c.word_len.ensures.word c.word_len.ensures.end ∙ ap run c.as_bytes.ensures.value in
+    record {
+      exact =
+          stop _ rest _ _ _ c.loop-rest.invariant.1
+          (eqb-false (length rest) 0 (sym c.loop-rest-test.ensures))
+          (c.split_at.ensures.front ∙ ap (λ n. take n rest) cut)
+          (sym c.in_default.is ∙ c.number.ensures)
+          (omega (arith, c.len-place.ensures, c.loop-rest.words.ok.0));
+      again = reads_back;
+    }
 
-pub returns-clause-exact : goal.returns-clause-exact
-returns-clause-exact c =
-    let all =
-    YieldsList-end
-    (word_parts _ c.into_iter-word-iterator.ensures.into_iter_gives c.filter-word-items.ensures.source c.filter-word-items.ensures.closure c.split.ensures.text c.split.ensures.has_more c.split.ensures.pattern (λ x b q k. search (rules, tests)))
-    c.loop-word.yielded _ c.loop-word.yielded_by _ _ c.in-None.is c.next.ensures.steps in
-    done _ _ _ c.loop-word.invariant.2 all.1
+pub returns-in_err-push : goal.returns-in_err-push
+returns-in_err-push c = record { exact = search rules; again = reads_back }
+
+pub loop-rest-smaller : goal.loop-rest-smaller
+loop-rest-smaller c =
+    let rest = c.loop-rest.rest.now in
+    let cut = run_to _ c.word_len.result c.word_len.ensures.within c.word_len.ensures.word c.word_len.ensures.end ∙ ap run c.as_bytes.ensures.value in
+    let less =
+    next_shorter rest c.split_at.result.1.now
+    (eqb-false (length rest) 0 (sym c.loop-rest-test.ensures))
+    c.loop-rest.invariant.1.trimmed
+    (c.split_at.ensures.back ∙ ap (λ n. drop n rest) cut) in
+    omega (arith, less, ap length c.skip_blanks-rest-in-loop-rest.ensures)
+
+pub loop-rest-preserved : goal.loop-rest-preserved
+loop-rest-preserved c =
+    let rest = c.loop-rest.rest.now in
+    let cut = run_to _ c.word_len.result c.word_len.ensures.within c.word_len.ensures.word c.word_len.ensures.end ∙ ap run c.as_bytes.ensures.value in (
+      search rules,
+      more _ rest _ c.split_at.result.0.now c.split_at.result.1.now _ _ c.in-Some.n c.loop-rest.invariant.1
+          (eqb-false (length rest) 0 (sym c.loop-rest-test.ensures))
+          (c.split_at.ensures.front ∙ ap (λ n. take n rest) cut)
+          (c.split_at.ensures.back ∙ ap (λ n. drop n rest) cut)
+          c.skip_blanks-rest-in-loop-rest.ensures
+          (sym c.in-Some.is ∙ c.number.ensures)
+          c.in_ok-push.ensures.items,
+    )
+
+pub returns : goal.returns
+returns c = record { exact = done _ _ _ c.loop-rest.invariant.1 (eqb-true (length c.loop-rest.rest.now) 0 (sym c.loop-rest-test.ensures)); again = reads_back }

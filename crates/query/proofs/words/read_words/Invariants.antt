@@ -1,7 +1,11 @@
+use denote.Text.{Utf8}
+use denote.Shadow.{shadow}
 use Rattle.std.proofs.Common.{length, vec_items}
 use Rattle.query.proofs.Wordwise.{Sofar}
 use Rattle.query.proofs.words.read_words.Given as goal
 
-abbrev pub invariant-loop-word : goal.invariant-loop-word
-invariant-loop-word l =
-    (goal.iterator-loop-word).can_next l.word-iterator × (goal.iterator-loop-word).is_finite l.word-iterator × Sofar l.line (length l.yielded) (vec_items l.words)
+abbrev pub invariant-loop-rest : goal.invariant-loop-rest
+invariant-loop-rest l = shadow (Utf8 l.rest) × Sofar l.line l.rest (vec_items l.words)
+
+abbrev pub decreases-loop-rest : goal.decreases-loop-rest
+decreases-loop-rest l = length l.rest
