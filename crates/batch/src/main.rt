@@ -1,12 +1,13 @@
 // Answers questions by words, one question a line: batch [--lines WORDS] [--work WORDS].
 #![tactic(auto)]
 
-use ending::{Stop, ended, said};
+use ending::{Stop, ended};
 use query::{
     Answer, Command, Lending, MOST_LENT, MOST_WORDS, Options, ask, parse_options, read_words,
 };
 use std::alloc::{AllocError, Global};
 use std::env;
+use std::fmt::Display;
 use std::io::{BufRead, BufReader, BufWriter, ErrorKind, Write};
 use std::process::ExitCode;
 
@@ -104,12 +105,20 @@ fn answer_all(rt: &HostRuntime, options: Options) -> Result<(), Stop> {
     Ok(out.flush()?)
 }
 
+// Says what is wrong, and gives why the run stops: that it has been said, or that a stream failed.
+fn said(rt: &HostRuntime, wrong: impl Display + Drop) -> Stop {
+    match ending::said(rt, "batch", wrong) {
+        Stop::Output(e) => Stop::Stream(e),
+        stop => stop,
+    }
+}
+
 // Says why no more is answered.
 fn report(rt: &HostRuntime, stop: Stop) -> Stop {
     match stop {
         Stop::Said => Stop::Said,
-        Stop::Output(e) | Stop::Stream(e) => said(rt, "batch", e),
-        Stop::Memory => said(rt, "batch", "there is not enough memory"),
+        Stop::Output(e) | Stop::Stream(e) => said(rt, e),
+        Stop::Memory => said(rt, "there is not enough memory"),
     }
 }
 
@@ -120,7 +129,7 @@ fn run(rt: &HostRuntime) -> Result<(), Stop> {
     match parse_options(args.as_slice()) {
         Ok(Command::Help) => rt.print(HELP).map_err(Stop::Stream),
         Ok(Command::Answer(options)) => answer_all(rt, options).map_err(|stop| report(rt, stop)),
-        Err(fault) => Err(said(rt, "batch", fault)),
+        Err(fault) => Err(said(rt, fault)),
     }
 }
 

@@ -119,10 +119,13 @@ fn tell(rt: &HostRuntime, old_path: &str, new_path: &str) -> Result<(), Stop> {
 
 // Tells what the arguments ask for.
 fn run(rt: &HostRuntime) -> Result<(), Stop> {
-    let args: Vec<String> = env::args(rt)?.skip(1).collect(rt.alloc())?;
-    match args.as_slice() {
-        [help, ..] if help.as_str() == "--help" => Ok(rt.print(HELP)?),
-        [old, new] => tell(rt, old.as_str(), new.as_str()),
+    let mut args = env::args(rt)?.skip(1);
+    let old = args.next();
+    if old.as_deref() == Some("--help") {
+        return Ok(rt.print(HELP)?);
+    }
+    match (old, args.next(), args.next()) {
+        (Some(old), Some(new), None) => tell(rt, old.as_str(), new.as_str()),
         _ => Err(said(
             rt,
             "tell",
