@@ -75,3 +75,19 @@ first_unmatched ws old n g x y before sets r whole labels e k = go r
       is = first_failing_at ts x f d j (omega (arith, l.within, many)) (λ t h. passes t (omega (arith, l.within)) (l.before t h)) (fails j l.within l.of l.missing)
           ∙ ap some (place j l.within);
     }
+
+-- a state with no transition has none that is not matched
+pub unmatched_none : (ws old : List ℕ) (n g x y : ℕ) → length ws ≡ 3 * g → ((t : ℕ) → t < g → source_at ws t ≡ x → ⊥) → FirstUnmatched ws old n g x y None
+unfolding unmatched
+unmatched_none ws old n g x y whole none = first_failing_none (transitions_of ws) x f d (λ t h.
+    let b : t < g = omega (arith, h, how_many ws g whole) in
+    subst (λ (z : Transition). T (not (fails_at x f z))) (sym (at_place ws t d (omega (arith, b, whole)))) (elim (T-or_not (eqb (source_at ws t) x)) [
+      | inl w ↦ absurd (none t b (eqb→eq (source_at ws t) x w))
+      | inr w ↦ and_not_0 (eqb (source_at ws t) x) (not (f (label_at ws t) (target_at ws t))) w
+    ]))
+  where
+    d : Transition
+    d = transition_at ws 0
+
+    f : ℕ → ℕ → Bool
+    f a u = any_step (transitions_of ws) y a (related old u)

@@ -1,5 +1,5 @@
 // Which transitions of a state another matches: those by the same label into the same block.
-ghost use Rattle.std.specs.Prelude.{◌≡◌, ℕ, ◌+◌, ◌*◌, ◌<◌, ◌≤◌, length, slice_index};
+ghost use Rattle.std.specs.Prelude.{◌≡◌, ℕ, ◌+◌, ◌*◌, ◌<◌, ◌≤◌, Decides, length, slice_index};
 ghost use Rattle.chains.specs.System.{label_at, Bounded};
 ghost use Rattle.chains.specs.Matching.{block_at, Represented, Emptied, Added, FirstMissing, FirstUnmatched};
 
@@ -29,6 +29,14 @@ impl<'a> Representatives<'a> {
         ensures at { result.at ≡ slice_index self.entry.first.now s.0 }
     {
         Walk::of(s, self.first, self.links)
+    }
+
+    // Whether a state has no transition.
+    fn is_stuck(self, x: State) -> bool
+        requires { x.0 < length self.first.now }
+        ensures { Decides result (length self.entry.links.now ≤ slice_index self.entry.first.now x.0) }
+    {
+        self.first[x.0] as usize >= self.links.len()
     }
 
     // The block that transition `j` leads into, and its label.
@@ -93,6 +101,9 @@ impl<'a> Representatives<'a> {
         requires other { y.0 < length self.first.now }
         ensures { FirstUnmatched self.entry.words.now self.entry.old.now (length self.entry.first.now) (length self.entry.links.now) x.0 y.0 result }
     {
+        if self.is_stuck(x) {
+            return None;
+        }
         self.empty_sets(x, sets);
         self.add_labels(y, sets);
         self.first_missing(x, sets)

@@ -12,7 +12,7 @@ use Rattle.query.specs.Reading.{blank, skip, run, put, cut, pieces}
 skip_at : (bs : List ℕ) (i : ℕ) → i < length bs → skip (drop i bs) ≡ cond (blank (get_or bs i 0)) (skip (drop (i + 1) bs)) (drop i bs)
 skip_at bs i h = rw (drop_more bs i 0 h)
 
-skip_none : (bs : List ℕ) (i : ℕ) → length bs ≤ i → skip (drop i bs) ≡ drop i bs
+pub skip_none : (bs : List ℕ) (i : ℕ) → length bs ≤ i → skip (drop i bs) ≡ drop i bs
 skip_none bs i h = rw (drop_all i bs h)
 
 blank_low : (c : ℕ) → blank c ≡ true → c < 128
@@ -49,7 +49,7 @@ skipped bs n h g e = sym (skip_end bs n h e) ∙ skip_front bs n h g
 run_at : (bs : List ℕ) (i : ℕ) → i < length bs → run (drop i bs) ≡ cond (blank (get_or bs i 0)) 0 (suc (run (drop (i + 1) bs)))
 run_at bs i h = rw (drop_more bs i 0 h)
 
-run_none : (bs : List ℕ) (i : ℕ) → length bs ≤ i → run (drop i bs) ≡ 0
+pub run_none : (bs : List ℕ) (i : ℕ) → length bs ≤ i → run (drop i bs) ≡ 0
 run_none bs i h = rw (drop_all i bs h)
 
 -- what stands before the first blank counts

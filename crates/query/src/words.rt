@@ -35,6 +35,7 @@ fn is_blank(b: u8) -> bool
 }
 
 // How many blanks stand in front.
+// Kept: bytes. By characters, as the library trims, long runs of blanks take twice the time.
 fn blank_len(bytes: &[u8]) -> usize
     ensures within { result ≤ length bytes.now }
     ensures blanks { (k : ℕ) → k < result → blank (slice_index bytes.now k) ≡ true }
